@@ -1,0 +1,21 @@
+-- Capcodes: the addresses of receivers.
+use Rattle.std.specs.Prelude.{◌≡◌, ◌≢◌, ℕ, ◌/◌, ◌%◌, ◌<◌, ◌^◌}
+
+-- The high bits of a capcode stand in its address words; its low bits are the frame that its pages start in.
+abbrev pub high_of : ℕ → ℕ
+high_of capcode = capcode / 8
+
+abbrev pub frame_of : ℕ → ℕ
+frame_of capcode = capcode % 8
+
+-- The high bits that the idle word and the sync word have. The sixteen capcodes with these aren't used.
+abbrev pub idle_high : ℕ
+idle_high = 250958
+
+abbrev pub sync_high : ℕ
+sync_high = 255632
+
+pub record IsUsable (capcode : ℕ) : Type 0 where
+  pub small : capcode < 2 ^ 21
+  pub not_idle : high_of capcode ≢ idle_high
+  pub not_sync : high_of capcode ≢ sync_high

@@ -1,0 +1,3 @@
+pub mod Capcodes
+pub mod Functions
+pub mod Words
