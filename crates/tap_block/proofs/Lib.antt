@@ -1,0 +1,5 @@
+pub mod First
+pub mod OneReading
+pub mod Exists
+pub mod Values
+mod Rows

@@ -1,0 +1,100 @@
+-- Spellings, escapes and the parts of a content.
+use Rattle.std.proofs.Common.{◌≡◌, ℕ, ◌+◌, ◌-◌, ◌<◌, ◌≤◌, ◌==◌, cond, Bool, true, false, ◌&&◌, List, [], ◌∷◌, ◌++◌, length, map, refl, ap, sym, ◌∙◌, subst, append_assoc, arith, Result, Ok, Err, nat_le, take, slice_set}
+use Rattle.std.proofs.lemmas.List.{take_more_set}
+use Rattle.std.specs.List.{AllByRecursion, flat_map}
+use Rattle.std.proofs.lemmas.Bool.Decides.{nat_tests}
+use Rattle.tap_block.specs.declared.faults.FieldFault.{FieldFault}
+use Rattle.tap_block.specs.declared.faults.FieldFault.TheVariants.{Control, SubEnd, SubLetter}
+use Rattle.tap_block.specs.Chars.{sub}
+use Rattle.tap_block.specs.Fields.{Spelling, plain, pair, IsSpelling, spelling, spelled, HasValue, is_plain, is_letter, front, read_field}
+
+pub front_nil : (r : Result (List ℕ) FieldFault) → front [] r ≡ r
+front_nil (Ok x) = refl
+front_nil (Err e) = refl
+
+pub front_front : (x y : List ℕ) (r : Result (List ℕ) FieldFault) → front x (front y r) ≡ front (x ++ y) r
+front_front x y (Ok z) = ap (λ w. Ok w) (sym (append_assoc x y z))
+front_front x y (Err e) = refl
+
+plain_test : (c : ℕ) → 32 ≤ c → c ≤ 126 → (nat_le 32 c && nat_le c 126) ≡ true
+plain_test c h k = grind (arith, nat_tests)
+
+letter_test : (c : ℕ) → 64 ≤ c → c ≤ 95 → (nat_le 64 c && nat_le c 95) ≡ true
+letter_test c h k = grind (arith, nat_tests)
+
+-- the steps of reading a field
+pub read_plain : (c : ℕ) (f : List ℕ) → 32 ≤ c → c ≤ 126 → read_field (c ∷ f) ≡ front (c ∷ []) (read_field f)
+read_plain c [] h k = rw (plain_test c h k) refl
+read_plain c (d ∷ f) h k = rw (plain_test c h k, read_field) refl
+
+pub read_pair : (d : ℕ) (f : List ℕ) → 64 ≤ d → d ≤ 95 → read_field (sub ∷ d ∷ f) ≡ front ((d - 64) ∷ []) (read_field f)
+read_pair d f h k = rw (letter_test d h k, read_field) refl
+
+-- the loop's step
+pub told_on : (into : List ℕ) (n c : ℕ) (rest behind field : List ℕ) → n < length into
+    → read_field rest ≡ front (c ∷ []) (read_field behind) → front (take n into) (read_field rest) ≡ read_field field
+    → front (take (n + 1) (slice_set into n c)) (read_field behind) ≡ read_field field
+told_on into n c rest behind field h e k =
+    rw (take_more_set into n c h) (sym (front_front (take n into) (c ∷ []) (read_field behind)) ∙ ap (front (take n into)) (sym e) ∙ k)
+
+-- a field has a value exactly if it is read so
+pub value_read : (field value : List ℕ) → HasValue field value → read_field field ≡ Ok value
+value_read field value h = ap read_field h.form ∙ spellings_read h.spellings h.each ∙ ap (λ v. Ok v) (sym h.spells)
+  where
+    spellings_read : (ss : List Spelling) → AllByRecursion IsSpelling ss → read_field (flat_map spelling ss) ≡ Ok (map spelled ss)
+    spellings_read [] p = refl
+    spellings_read (plain c ∷ ss) p = read_plain c (flat_map spelling ss) p.0.0 p.0.1 ∙ ap (front (c ∷ [])) (spellings_read ss p.1)
+    spellings_read (pair d ∷ ss) p = read_pair d (flat_map spelling ss) p.0.0 p.0.1 ∙ ap (front ((d - 64) ∷ [])) (spellings_read ss p.1)
+
+pub one_value : (field v w : List ℕ) → HasValue field v → HasValue field w → v ≡ w
+one_value field v w h k = let e = value_read field v h in let f = value_read field w k in cc
+
+-- what is read is a value
+abbrev ReadIs : List ℕ → Result (List ℕ) FieldFault → Type 0
+ReadIs field (Ok value) = HasValue field value
+ReadIs field (Err fault) = Unit {0}
+
+with_spelling : (s : Spelling) (f : List ℕ) (r : Result (List ℕ) FieldFault) → IsSpelling s → ReadIs f r → ReadIs (spelling s ++ f) (front (spelled s ∷ []) r)
+with_spelling s f (Err fault) p h = tt
+with_spelling s f (Ok value) p h = record {
+  spellings = s ∷ h.spellings;
+  each = (p, h.each);
+  form = ap (λ z. spelling s ++ z) h.form;
+  spells = ap (λ z. spelled s ∷ z) h.spells;
+}
+
+plain_if : (c : ℕ) → is_plain c ≡ true → (32 ≤ c) × (c ≤ 126)
+plain_if c h = grind (arith, nat_tests)
+
+letter_if : (c : ℕ) → is_letter c ≡ true → (64 ≤ c) × (c ≤ 95)
+letter_if c h = grind (arith, nat_tests)
+
+eqb-to : (c : ℕ) → (c == sub) ≡ true → c ≡ sub
+eqb-to c e = grind (arith, nat_tests)
+
+pub read_is : (field : List ℕ) → ReadIs field (read_field field)
+read_is [] = record { spellings = []; each = tt; form = refl; spells = refl }
+read_is (c ∷ []) = one (is_plain c) refl
+  where
+    one : (b : Bool) → is_plain c ≡ b → ReadIs (c ∷ []) (cond b (Ok (c ∷ [])) (Err (cond (c == sub) SubEnd Control)))
+    one true e = record { spellings = plain c ∷ []; each = (plain_if c e, tt); form = refl; spells = refl }
+    one false e = tt
+read_is (c ∷ d ∷ f) = first (is_plain c) refl (read_is (d ∷ f)) (read_is f)
+  where
+    letter : (b : Bool) → is_letter d ≡ b → ReadIs f (read_field f) → ReadIs (sub ∷ d ∷ f) (elim b [ true ↦ front ((d - 64) ∷ []) (read_field f) | false ↦ Err SubLetter ])
+    letter true e h = with_spelling (pair d) f (read_field f) (letter_if d e) h
+    letter false e h = tt
+
+    second : (b : Bool) → (c == sub) ≡ b → ReadIs f (read_field f)
+        → ReadIs (c ∷ d ∷ f) (elim b [ true ↦ elim (is_letter d) [ true ↦ front ((d - 64) ∷ []) (read_field f) | false ↦ Err SubLetter ] | false ↦ Err Control ])
+    second true e h = subst (λ k. ReadIs (k ∷ d ∷ f) (elim (is_letter d) [ true ↦ front ((d - 64) ∷ []) (read_field f) | false ↦ Err SubLetter ])) (sym (eqb-to c e)) (letter (is_letter d) refl h)
+    second false e h = tt
+
+    first : (b : Bool) → is_plain c ≡ b → ReadIs (d ∷ f) (read_field (d ∷ f)) → ReadIs f (read_field f)
+        → ReadIs (c ∷ d ∷ f) (elim b [ true ↦ front (c ∷ []) (read_field (d ∷ f)) | false ↦ elim (c == sub) [ true ↦ elim (is_letter d) [ true ↦ front ((d - 64) ∷ []) (read_field f) | false ↦ Err SubLetter ] | false ↦ Err Control ] ])
+    first true e h k = with_spelling (plain c) (d ∷ f) (read_field (d ∷ f)) (plain_if c e) h
+    first false e h k = second (c == sub) refl k
+
+-- a field that is read so has this value
+pub read_has : (field value : List ℕ) → read_field field ≡ Ok value → HasValue field value
+read_has field value e = let P : Result (List ℕ) FieldFault → Type 0 = λ r. ReadIs field r in subst P e (read_is field)

@@ -1,0 +1,52 @@
+-- Characters, and the sum of a block.
+use Rattle.std.specs.Prelude.{ℕ, ◌+◌, ◌/◌, ◌%◌, List, [], ◌∷◌, map, sum}
+use Rattle.tap_block.specs.declared.ends.End.{End}
+use Rattle.tap_block.specs.declared.ends.End.TheVariants.{Etx, Etb, Us}
+
+-- control characters
+abbrev pub stx : ℕ
+stx = 2
+
+abbrev pub etx : ℕ
+etx = 3
+
+abbrev pub eot : ℕ
+eot = 4
+
+abbrev pub lf : ℕ
+lf = 10
+
+abbrev pub cr : ℕ
+cr = 13
+
+abbrev pub etb : ℕ
+etb = 23
+
+abbrev pub sub : ℕ
+sub = 26
+
+abbrev pub esc : ℕ
+esc = 27
+
+abbrev pub us : ℕ
+us = 31
+
+-- a byte stands for its low seven bits
+abbrev pub char_of : ℕ → ℕ
+char_of byte = byte % 128
+
+abbrev pub characters : List ℕ → List ℕ
+characters bytes = map char_of bytes
+
+-- the total of the characters modulo 4096
+abbrev pub sum_of : List ℕ → ℕ
+sum_of x = sum x % 4096
+
+-- a sum as three characters, four bits each, the highest first
+abbrev pub written : ℕ → List ℕ
+written n = (48 + n / 256) ∷ (48 + n / 16 % 16) ∷ (48 + n % 16) ∷ []
+
+abbrev pub end_char : End → ℕ
+end_char Etx = etx
+end_char Etb = etb
+end_char Us = us

@@ -1,0 +1,3 @@
+pub mod Chars
+pub mod Reading
+pub mod Fields

@@ -1,0 +1,137 @@
+-- How the characters of a session are read: pieces one after another, and a rest.
+use Rattle.std.specs.Prelude.{◌≡◌, ◌≢◌, ℕ, ◌==◌, Bool, false, ◌&&◌, ◌||◌, not, if◌then◌else◌, nat_eq, List, [], ◌∷◌, ◌++◌, length, filter, Option, Some, None}
+use Rattle.std.specs.List.{AllByRecursion, filter_map}
+use lib.Pointwise.{pointwise}
+use Rattle.tap_block.specs.declared.ends.End.{End}
+use Rattle.tap_block.specs.Chars.{stx, etx, eot, lf, cr, etb, us, sum_of, written, end_char}
+
+-- before the logon lines are read, and blocks after it
+pub data Mode : Type 0 where
+  BeforeLogon : Mode
+  AfterLogon : Mode
+
+-- A piece with its parts.
+pub data Piece : Type 0 where
+  -- a line and its CR
+  line : List ℕ → Piece
+  -- a character that is skipped
+  skipped : ℕ → Piece
+  -- an EOT that is skipped
+  lone_eot : Piece
+  -- EOT CR
+  bye : Piece
+  -- a body that a new block cuts off
+  dropped : List ℕ → Piece
+  -- a block: its body, its end, its trailer
+  block : List ℕ → End → List ℕ → Piece
+
+-- its characters
+abbrev pub text : Piece → List ℕ
+text (line l) = l ++ cr ∷ []
+text (skipped c) = c ∷ []
+text lone_eot = eot ∷ []
+text bye = eot ∷ cr ∷ []
+text (dropped b) = stx ∷ b
+text (block b e t) = (stx ∷ b) ++ end_char e ∷ t
+
+-- a body has none of STX, ETX, ETB, US
+abbrev pub IsBodyChar : ℕ → Type 0
+IsBodyChar c = (c ≢ stx) × (c ≢ etx) × (c ≢ etb) × (c ≢ us)
+
+abbrev pub IsBody : List ℕ → Type 0
+IsBody b = AllByRecursion IsBodyChar b
+
+-- a trailer is the shortest list that ends in CR or has four characters
+abbrev pub IsTrailer : List ℕ → Type 0
+IsTrailer [] = ⊥
+IsTrailer (a ∷ []) = a ≡ cr
+IsTrailer (a ∷ b ∷ []) = (a ≢ cr) × (b ≡ cr)
+IsTrailer (a ∷ b ∷ c ∷ []) = (a ≢ cr) × (b ≢ cr) × (c ≡ cr)
+IsTrailer (a ∷ b ∷ c ∷ d ∷ []) = (a ≢ cr) × (b ≢ cr) × (c ≢ cr)
+IsTrailer (a ∷ b ∷ c ∷ d ∷ e ∷ t) = ⊥
+
+-- the first character of the list is so
+abbrev pub Begins : (ℕ → Type 0) → List ℕ → Type 0
+Begins P [] = ⊥
+Begins P (c ∷ x) = P c
+
+-- The piece may stand here, where `next` follows it.
+abbrev pub IsPieceBefore : Mode → Piece → List ℕ → Type 0
+IsPieceBefore BeforeLogon (line l) next = AllByRecursion (λ c. c ≢ cr) l
+IsPieceBefore AfterLogon (skipped c) next = (c ≢ stx) × (c ≢ eot)
+IsPieceBefore AfterLogon lone_eot next = Begins (λ c. c ≢ cr) next
+IsPieceBefore AfterLogon bye next = Unit {0}
+IsPieceBefore AfterLogon (dropped b) next = IsBody b × Begins (λ c. c ≡ stx) next
+IsPieceBefore AfterLogon (block b e t) next = IsBody b × IsTrailer t
+IsPieceBefore mode piece next = ⊥
+
+-- `ESC PG1` and nothing or six characters, which are the password where one is set
+abbrev pub is_password : Option (List ℕ) → List ℕ → Bool
+is_password None word = (length word == 0) || (length word == 6)
+is_password (Some password) word = (length word == 6) && pointwise nat_eq word password
+
+abbrev pub is_logon : Option (List ℕ) → List ℕ → Bool
+is_logon password (a ∷ b ∷ c ∷ d ∷ word) = (a == 27) && (b == 80) && (c == 71) && (d == 49) && is_password password word
+is_logon password l = false
+
+abbrev pub without_lf : List ℕ → List ℕ
+without_lf l = filter (λ c. not (c == lf)) l
+
+-- What a piece is for the terminal. A block has its body, its end, and whether its trailer is right.
+pub data Entry : Type 0 where
+  empty_line : Entry
+  logon : Entry
+  wrong_line : Entry
+  a_block : List ℕ → End → Bool → Entry
+  a_bye : Entry
+
+-- the item of a line, by its characters without LF
+abbrev pub line_item : Option (List ℕ) → List ℕ → Entry
+line_item password [] = empty_line
+line_item password (c ∷ l) = if is_logon password (c ∷ l) then logon else wrong_line
+
+abbrev pub is_right : List ℕ → End → List ℕ → Bool
+is_right b e t = pointwise nat_eq t (written (sum_of ((stx ∷ b) ++ end_char e ∷ [])) ++ cr ∷ [])
+
+abbrev pub item_of : Option (List ℕ) → Piece → Option Entry
+item_of password (line l) = Some (line_item password (without_lf l))
+item_of password (skipped c) = None
+item_of password lone_eot = None
+item_of password bye = Some a_bye
+item_of password (dropped b) = None
+item_of password (block b e t) = Some (a_block b e (is_right b e t))
+
+-- a logon begins the blocks
+abbrev pub mode_by : Entry → Mode → Mode
+mode_by logon mode = AfterLogon
+mode_by other mode = mode
+
+abbrev pub mode_after : Option (List ℕ) → Piece → Mode → Mode
+mode_after password (line l) mode = mode_by (line_item password (without_lf l)) mode
+mode_after password other mode = mode
+
+-- no front of the list is a piece in its place
+abbrev pub HasNoPiece : Mode → List ℕ → Type 0
+HasNoPiece mode rest = (piece : Piece) (next : List ℕ) → rest ≡ text piece ++ next → IsPieceBefore mode piece next → ⊥
+
+-- The characters are these pieces one after another, each in its place, and this rest.
+abbrev pub Reads : Option (List ℕ) → Mode → List Piece → List ℕ → List ℕ → Type 0
+Reads password mode [] rest x = (x ≡ rest) × HasNoPiece mode rest
+Reads password mode (piece ∷ pieces) rest x =
+    (next : List ℕ) × (x ≡ text piece ++ next) × IsPieceBefore mode piece next
+    × Reads password (mode_after password piece mode) pieces rest next
+
+-- the mode after pieces, and their items
+abbrev pub mode_at : Option (List ℕ) → Mode → List Piece → Mode
+mode_at password mode [] = mode
+mode_at password mode (piece ∷ pieces) = mode_at password (mode_after password piece mode) pieces
+
+abbrev pub items_of : Option (List ℕ) → List Piece → List Entry
+items_of password pieces = filter_map (item_of password) pieces
+
+-- A list has one reading and no other.
+pub record HasOneReading (password : Option (List ℕ)) (mode : Mode) (x : List ℕ) : Type 0 where
+  pub pieces : List Piece
+  pub rest : List ℕ
+  pub reads : Reads password mode pieces rest x
+  pub only : (others : List Piece) (other : List ℕ) → Reads password mode others other x → (others ≡ pieces) × (other ≡ rest)
