@@ -1,5 +1,6 @@
 pub mod First
 pub mod OneReading
 pub mod Exists
+pub mod Parts
 pub mod Values
 mod Rows
