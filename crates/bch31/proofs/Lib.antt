@@ -1,0 +1,4 @@
+pub mod Remainders
+pub mod Multiples
+pub mod Steps
+pub mod Fronts

@@ -1,1 +1,5 @@
+pub mod Distances
 pub mod Lengths
+pub mod Numbers
+pub mod Registers
+pub mod Xors

@@ -1,5 +1,5 @@
 -- Capcodes: the addresses of receivers.
-use Rattle.std.specs.Prelude.{◌≡◌, ◌≢◌, ℕ, ◌/◌, ◌%◌, ◌<◌, ◌^◌}
+use Rattle.std.specs.Prelude.{◌≢◌, ℕ, ◌/◌, ◌%◌, ◌<◌, ◌^◌}
 
 -- The high bits of a capcode stand in its address words; its low bits are the frame that its pages start in.
 abbrev pub high_of : ℕ → ℕ

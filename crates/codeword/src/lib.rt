@@ -7,4 +7,4 @@ pub mod words;
 
 pub use addresses::Capcode;
 pub use functions::Function;
-pub use words::{IDLE, SYNC};
+pub use words::{IDLE, SYNC, address_word, message_word};
