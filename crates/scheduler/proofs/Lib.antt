@@ -1,0 +1,5 @@
+pub mod Unique
+pub mod Exists
+pub mod Room
+pub mod Schedules
+pub mod OnePage

@@ -1,1 +1,4 @@
 pub mod Slots
+pub mod Plan
+pub mod Laws
+pub mod OnePage

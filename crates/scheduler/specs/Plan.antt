@@ -1,0 +1,47 @@
+-- The pieces of a transmission, chosen one at a time from its start.
+use Rattle.std.specs.Prelude.{ℕ, zero, suc, ◌+◌, ◌-◌, ◌*◌, ◌%◌, ◌==◌, Bool, true, false, ◌&&◌, if◌then◌else◌, List, [], ◌∷◌, length}
+use Rattle.std.specs.List.{filter, sum_by}
+use Rattle.page_text.specs.Page.{Page}
+use Rattle.scheduler.specs.Slots.{Piece, Idle, Run, run, words, frame, frame_at, in_frame}
+
+-- no page is left
+abbrev pub none_waits : List Page → Bool
+none_waits [] = true
+none_waits (page ∷ waiting) = false
+
+-- no page waits, the place before was idle, and a batch has ended
+abbrev pub is_done : ℕ → List Page → Bool → Bool
+is_done start waiting idle = none_waits waiting && (idle && start % 16 == 0)
+
+-- the pages without the first one of a frame
+abbrev pub without_first : ℕ → List Page → List Page
+without_first f [] = []
+without_first f (page ∷ waiting) = if in_frame f page then waiting else page ∷ without_first f waiting
+
+-- At most n pieces from a place on. Where pages of the place's frame wait, the first of them starts; else the place is idle.
+unfoldable pub some_pieces : ℕ → ℕ → List Page → Bool → List Piece
+some_pieces zero start waiting idle = []
+some_pieces (suc n) start waiting idle =
+    elim (is_done start waiting idle) [
+      | true ↦ []
+      | false ↦ elim (filter (in_frame (frame_at start)) waiting) [
+        | [] ↦ Idle ∷ some_pieces n (start + 1) waiting true
+        | page ∷ _ ↦ Run page ∷ some_pieces n (start + length (run page)) (without_first (frame_at start) waiting) false
+      ]
+    ]
+
+-- how many places lie between a place and the next place of a frame
+abbrev pub way : ℕ → ℕ → ℕ
+way start f = if frame_at start == f then 0 else (2 * f + 16 - start % 16) % 16
+
+-- how many slots suffice from a place on
+abbrev pub room : ℕ → List Page → Bool → ℕ
+room start [] idle = if idle && start % 16 == 0 then 0 else 16 - start % 16
+room start (page ∷ waiting) idle = way start (frame page) + sum_by (λ q. length (run q)) (page ∷ waiting) + 14 * length waiting + 16
+
+-- the pieces of a transmission of the accepted pages, and their words
+unfoldable pub pieces_of : List Page → List Piece
+pieces_of accepted = some_pieces (room 0 accepted true) 0 accepted true
+
+abbrev pub slots_of : List Page → List ℕ
+slots_of accepted = words (pieces_of accepted)
