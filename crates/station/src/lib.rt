@@ -1,0 +1,4 @@
+//! The station.
+#![tactic(auto)]
+
+mod blocks;
