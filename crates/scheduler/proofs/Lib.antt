@@ -3,3 +3,4 @@ pub mod Exists
 pub mod Room
 pub mod Schedules
 pub mod OnePage
+mod Rows
