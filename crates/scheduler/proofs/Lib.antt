@@ -1,5 +1,7 @@
+pub mod Frames
+pub mod Pieces
 pub mod Unique
-pub mod Exists
+pub mod Lays
 pub mod Room
 pub mod Schedules
 pub mod OnePage

@@ -1,4 +1,4 @@
--- Worked schedules, by computation. `slots_of_schedule` says that these are schedules, and `schedule_is_slots_of` that there are
+-- Worked schedules, by computation. `slots_of-schedule` says that these are schedules, and `schedule-is_slots_of` that there are
 -- no others.
 use Rattle.std.proofs.Common.{◌≡◌, ℕ, List, [], ◌∷◌, ◌++◌, replicate, refl}
 use Rattle.std.specs.Prelude.{codes}
@@ -20,7 +20,8 @@ alpha : ℕ → List ℕ → Page
 alpha capcode text = record { capcode = capcode; function = Alpha; text = text }
 
 -- frame 7 comes last, and two pages of one frame follow one another
-three_tones : slots_of (tone 15 ∷ tone 8 ∷ tone 16 ∷ []) ≡ 0x0000283F ∷ 0x00004DD8 ∷ (replicate 12 IDLE ++ 0x0000283F ∷ IDLE ∷ [])
+three_tones : slots_of (tone 15 ∷ tone 8 ∷ tone 16 ∷ [])
+    ≡ 0x0000283F ∷ 0x00004DD8 ∷ (replicate 12 IDLE ++ 0x0000283F ∷ IDLE ∷ [])
 unfolding tone pieces_of some_pieces run address_of message_of word_of remainder ones_among
 three_tones = refl
 
