@@ -1,5 +1,8 @@
+pub mod Frames
+pub mod Pieces
 pub mod Unique
-pub mod Exists
+pub mod Lays
 pub mod Room
 pub mod Schedules
 pub mod OnePage
+mod Rows

@@ -1,75 +1,85 @@
 -- The schedule of one page.
-use Rattle.std.proofs.Common.{◌≡◌, ℕ, zero, suc, ◌+◌, ◌-◌, ◌*◌, ◌%◌, ◌<◌, ◌≤◌, ◌==◌, Bool, true, false, List, [], ◌∷◌, ◌++◌, length, replicate, refl, sym, ◌∙◌, ap, subst, arith, eq-eqb, length-append, add-zero, zero-add, inl, inr}
+use Rattle.std.proofs.Common.{◌≡◌, ℕ, zero, suc, ◌+◌, ◌-◌, ◌*◌, ◌%◌, ◌≤◌, ◌<◌, ◌==◌, Bool, true, false, List, [], ◌∷◌, ◌++◌, length, replicate, refl, sym, ◌∙◌, ap, subst, arith, eq-eqb, length-append, inl, inr, add-zero, zero-add}
 use Rattle.std.proofs.lemmas.List.{length-replicate}
 use Rattle.std.proofs.lemmas.Bool.Decides.{eqb_tells}
 use Rattle.codeword.specs.declared.words.TheConstants.{IDLE}
 use Rattle.page_text.specs.Page.{Page}
-use Rattle.scheduler.specs.Slots.{Piece, Idle, Run, run, frame, frame_at, in_frame, words, IsSchedule}
+use Rattle.scheduler.specs.Slots.{Piece, Idle, Run, run, frame, frame_at, in_frame, IsSchedule}
 use Rattle.scheduler.specs.Plan.{is_done}
 use Rattle.scheduler.specs.OnePage.{batches_of_one, slots_of_one}
-use Rattle.scheduler.proofs.Exists.{Lays, stop, wait, start, no-first, yes-first, lays_layout, without-yes}
+use Rattle.scheduler.proofs.Frames.{filter-yes, filter-no, without_first-yes}
+use Rattle.scheduler.proofs.Pieces.{words-idle_append, words-idle}
+use Rattle.scheduler.proofs.Lays.{Lays, stop, wait, send, lays_layout}
 
 -- how many idle slots follow the run
 abbrev idle_after : ℕ → ℕ → ℕ
 idle_after f n = 16 * batches_of_one f n - (2 * f + n)
 
+-- the pieces of a transmission of one page
 abbrev pieces_of_one : Page → List Piece
 pieces_of_one page = replicate (2 * frame page) Idle ++ Run page ∷ replicate (idle_after (frame page) (length (run page))) Idle
 
 -- with no page left, idle places to the end of the batch
-lays_end : (k p : ℕ) (idle : Bool) → is_done p [] idle ≡ false → 1 ≤ k → k ≤ 16 → (p + k) % 16 ≡ 0 → Lays p [] idle (replicate k Idle)
-lays_end zero p idle not low high whole = absurd (omega (arith, low))
-lays_end (suc zero) p idle not low high whole = wait refl not (stop whole)
-lays_end (suc (suc k)) p idle not low high whole =
-    wait refl not (lays_end (suc k) (p + 1) true (later k p high whole) (omega arith) (omega (arith, high)) (at k p whole))
+lays_end : (k start : ℕ) (idle : Bool) → is_done start [] idle ≡ false → 1 ≤ k → k ≤ 16 → (start + k) % 16 ≡ 0
+    → Lays start [] idle (replicate k Idle)
+lays_end zero start idle not low high whole = absurd (omega (arith, low))
+lays_end (suc zero) start idle not low high whole = wait refl not (stop whole)
+lays_end (suc (suc k)) start idle not low high whole =
+    wait refl not (lays_end (suc k) (start + 1) true (later k start high whole) (omega arith) (omega (arith, high)) (at k start whole))
   where
-    at : (k p : ℕ) → (p + suc (suc k)) % 16 ≡ 0 → (p + 1 + suc k) % 16 ≡ 0
-    at k p e = ap (λ n. n % 16) (sum k p) ∙ e
+    at : (k start : ℕ) → (start + suc (suc k)) % 16 ≡ 0 → (start + 1 + suc k) % 16 ≡ 0
+    at k start e = ap (λ n. n % 16) (sum k start) ∙ e
       where
-        sum : (k p : ℕ) → p + 1 + suc k ≡ p + suc (suc k)
-        sum k p = omega arith
+        sum : (k start : ℕ) → start + 1 + suc k ≡ start + suc (suc k)
+        sum k start = omega arith
 
-    later : (k p : ℕ) → suc (suc k) ≤ 16 → (p + suc (suc k)) % 16 ≡ 0 → is_done (p + 1) [] true ≡ false
-    later k p high e = elim (eqb_tells ((p + 1) % 16) 0) [ inl a ↦ absurd (omega (arith, a.1, e, high)) | inr a ↦ a.0 ]
+    later : (k start : ℕ) → suc (suc k) ≤ 16 → (start + suc (suc k)) % 16 ≡ 0 → is_done (start + 1) [] true ≡ false
+    later k start high e = elim (eqb_tells ((start + 1) % 16) 0) [ inl a ↦ absurd (omega (arith, a.1, e, high)) | inr a ↦ a.0 ]
 
 -- idle places up to the page's frame
-lays_wait : (k p : ℕ) (page : Page) (idle : Bool) (l : List Piece) → p + k ≡ 2 * frame page → ((idle : Bool) → Lays (2 * frame page) (page ∷ []) idle l)
-    → Lays p (page ∷ []) idle (replicate k Idle ++ l)
-lays_wait zero p page idle l e r = subst (λ n. Lays n (page ∷ []) idle l) (sym e ∙ add-zero p) (r idle)
-lays_wait (suc k) p page idle l e r =
-    wait (no-first (in_frame (frame_at p)) page [] (other p (frame page) k e (omega arith))) refl (lays_wait k (p + 1) page true l (omega (arith, e)) r)
+lays_wait : (k start : ℕ) (page : Page) (idle : Bool) (rest : List Piece) → start + k ≡ 2 * frame page
+    → ((idle : Bool) → Lays (2 * frame page) (page ∷ []) idle rest)
+    → Lays start (page ∷ []) idle (replicate k Idle ++ rest)
+lays_wait zero start page idle rest e r = subst (λ n. Lays n (page ∷ []) idle rest) (sym e ∙ add-zero start) (r idle)
+lays_wait (suc k) start page idle rest e r =
+    wait (filter-no (in_frame (frame_at start)) page [] (other start (frame page) k e (omega arith))) refl
+    (lays_wait k (start + 1) page true rest (omega (arith, e)) r)
   where
-    other : (p f k : ℕ) → p + suc k ≡ 2 * f → f < 8 → (f == frame_at p) ≡ false
-    other p f k e h = elim (eqb_tells f (frame_at p)) [ inl a ↦ absurd (omega (arith, a.1, e, h)) | inr a ↦ a.0 ]
+    other : (start f k : ℕ) → start + suc k ≡ 2 * f → f < 8 → (f == frame_at start) ≡ false
+    other start f k e h = elim (eqb_tells f (frame_at start)) [ inl a ↦ absurd (omega (arith, a.1, e, h)) | inr a ↦ a.0 ]
 
--- the run
-lays_run : (page : Page) (idle : Bool) → Lays (2 * frame page) (page ∷ []) idle (Run page ∷ replicate (idle_after (frame page) (length (run page))) Idle)
+-- from the page's frame on: its run, and idle places
+lays_run : (page : Page) (idle : Bool)
+    → Lays (2 * frame page) (page ∷ []) idle (Run page ∷ replicate (idle_after (frame page) (length (run page))) Idle)
 lays_run page idle =
     let own : in_frame (frame_at (2 * frame page)) page ≡ true = eq-eqb (frame page) _ (omega arith) in
-    start page [] (yes-first (in_frame (frame_at (2 * frame page))) page [] own)
+    send page [] (filter-yes (in_frame (frame_at (2 * frame page))) page [] own)
     (subst (λ w. Lays (2 * frame page + length (run page)) w false (replicate (idle_after (frame page) (length (run page))) Idle))
-    (sym (without-yes (frame_at (2 * frame page)) page [] own))
+    (sym (without_first-yes (frame_at (2 * frame page)) page [] own))
     (lays_end _ _ false refl (omega arith) (omega arith) (omega arith)))
 
-words-idle : (k : ℕ) (l : List Piece) → words (replicate k Idle ++ l) ≡ replicate k IDLE ++ words l
-words-idle zero l = refl
-words-idle (suc k) l = ap (λ w. IDLE ∷ w) (words-idle k l)
-
-words-all_idle : (k : ℕ) → words (replicate k Idle) ≡ replicate k IDLE
-words-all_idle zero = refl
-words-all_idle (suc k) = ap (λ w. IDLE ∷ w) (words-all_idle k)
-
+-- the slots of one page are a schedule of it
 pub one_page : (page : Page) → IsSchedule (page ∷ []) (slots_of_one page)
 one_page page = record {
   pieces = pieces_of_one page;
-  layout = lays_layout (page ∷ []) (pieces_of_one page) (λ e. cc) (lays_wait (2 * frame page) 0 page true _ (zero-add (2 * frame page)) (lays_run page));
-  slots_are = sym (words-idle (2 * frame page) _ ∙ ap (λ w. replicate (2 * frame page) IDLE ++ (run page ++ w)) (words-all_idle (idle_after (frame page) (length (run page)))));
+  layout = lays_layout (page ∷ []) (pieces_of_one page) (λ e. cc)
+      (lays_wait (2 * frame page) 0 page true _ (zero-add (2 * frame page)) (lays_run page));
+  slots_are = sym (words-idle_append (2 * frame page) _
+      ∙ ap (λ w. replicate (2 * frame page) IDLE ++ (run page ++ w)) (words-idle (idle_after (frame page) (length (run page)))));
 }
 
+-- they are whole batches
 pub length-slots_of_one : (page : Page) → length (slots_of_one page) ≡ 16 * batches_of_one (frame page) (length (run page))
 length-slots_of_one page = whole (2 * frame page) (run page) (batches_of_one (frame page) (length (run page))) (omega arith)
   where
     whole : (k : ℕ) (r : List ℕ) (b : ℕ) → k + length r ≤ 16 * b
         → length (replicate k IDLE ++ (r ++ replicate (16 * b - (k + length r)) IDLE)) ≡ 16 * b
     whole k r b h = let m : ℕ = 16 * b - (k + length r) in
-        omega (arith, h, length-append (replicate k IDLE) (r ++ replicate m IDLE), length-append r (replicate m IDLE), length-replicate k IDLE, length-replicate m IDLE)
+        omega (
+          arith,
+          h,
+          length-append (replicate k IDLE) (r ++ replicate m IDLE),
+          length-append r (replicate m IDLE),
+          length-replicate k IDLE,
+          length-replicate m IDLE,
+        )

@@ -5,25 +5,38 @@ use Rattle.scheduler.specs.Slots.{IsSchedule}
 use Rattle.scheduler.specs.Plan.{room, pieces_of, slots_of}
 use Rattle.scheduler.specs.Laws.{OneSchedule, FewSlots}
 use Rattle.scheduler.proofs.Unique.{at_most_one}
-use Rattle.scheduler.proofs.Exists.{Lays, lays_layout}
-use Rattle.scheduler.proofs.Room.{some_pieces_lay, lays_short, room_short}
+use Rattle.scheduler.proofs.Lays.{Lays, lays_layout}
+use Rattle.scheduler.proofs.Room.{some_pieces-lays, place-lays, room_short}
 
 -- the pieces of the plan, each chosen as its place demands
-pieces_of_lay : (a : List Page) → Lays 0 a true (pieces_of a)
+pieces_of-lays : (accepted : List Page) → Lays 0 accepted true (pieces_of accepted)
 unfolding pieces_of
-pieces_of_lay a = some_pieces_lay (room 0 a true) 0 a true (omega arith)
+pieces_of-lays accepted = some_pieces-lays (room 0 accepted true) 0 accepted true (omega arith)
 
 -- the plan's words are a schedule
-pub slots_of_schedule : (a : List Page) → a ≢ [] → IsSchedule a (slots_of a)
-slots_of_schedule a ne = record { pieces = pieces_of a; layout = lays_layout a (pieces_of a) ne (pieces_of_lay a); slots_are = refl }
+pub slots_of-schedule : (accepted : List Page) → accepted ≢ [] → IsSchedule accepted (slots_of accepted)
+slots_of-schedule accepted some = record {
+  pieces = pieces_of accepted;
+  layout = lays_layout accepted (pieces_of accepted) some (pieces_of-lays accepted);
+  slots_are = refl;
+}
 
 -- there is no other
-pub schedule_is_slots_of : (a : List Page) (s : List ℕ) → a ≢ [] → IsSchedule a s → s ≡ slots_of a
-schedule_is_slots_of a s ne x = at_most_one a s (slots_of a) x (slots_of_schedule a ne)
+pub schedule-is_slots_of : (accepted : List Page) (slots : List ℕ) → accepted ≢ [] → IsSchedule accepted slots
+    → slots ≡ slots_of accepted
+schedule-is_slots_of accepted slots some is = at_most_one accepted slots (slots_of accepted) is (slots_of-schedule accepted some)
 
+-- so there is exactly one
 pub one_schedule : OneSchedule
-one_schedule a ne = (slots_of a, slots_of_schedule a ne, λ t x. schedule_is_slots_of a t ne x)
+one_schedule accepted some =
+    (slots_of accepted, slots_of-schedule accepted some, λ others is. schedule-is_slots_of accepted others some is)
 
+-- it is no longer than the room at its start
 pub few_slots : FewSlots
-few_slots a s ne x =
-    omega (arith, ap length (schedule_is_slots_of a s ne x), lays_short 0 a true (pieces_of a) (pieces_of_lay a), room_short 0 a true)
+few_slots accepted slots some is =
+    omega (
+      arith,
+      ap length (schedule-is_slots_of accepted slots some is),
+      place-lays 0 accepted true (pieces_of accepted) (pieces_of-lays accepted),
+      room_short 0 accepted true,
+    )

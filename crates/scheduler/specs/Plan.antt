@@ -30,7 +30,7 @@ some_pieces (suc n) start waiting idle =
       ]
     ]
 
--- how many places lie between a place and the next place of a frame
+-- how many places further a frame comes next: none in the frame itself
 abbrev pub way : ℕ → ℕ → ℕ
 way start f = if frame_at start == f then 0 else (2 * f + 16 - start % 16) % 16
 

@@ -1,0 +1,36 @@
+-- The words, the pages and the place of pieces.
+use Rattle.std.proofs.Common.{◌≡◌, ℕ, zero, suc, ◌+◌, List, [], ◌∷◌, ◌++◌, length, replicate, refl, sym, ◌∙◌, ap, append_assoc, length-append}
+use Rattle.codeword.specs.declared.words.TheConstants.{IDLE}
+use Rattle.page_text.specs.Page.{Page}
+use Rattle.scheduler.specs.Slots.{Piece, Idle, Run, run, words, pages, place}
+
+-- the pages of pieces one after another
+pub pages-append : (xs ys : List Piece) → pages (xs ++ ys) ≡ pages xs ++ pages ys
+pages-append [] ys = refl
+pages-append (Idle ∷ xs) ys = pages-append xs ys
+pages-append (Run page ∷ xs) ys = ap (λ rest. page ∷ rest) (pages-append xs ys)
+
+-- their words
+pub words-append : (xs ys : List Piece) → words (xs ++ ys) ≡ words xs ++ words ys
+words-append [] ys = refl
+words-append (Idle ∷ xs) ys = ap (λ rest. IDLE ∷ rest) (words-append xs ys)
+words-append (Run page ∷ xs) ys =
+    ap (λ rest. run page ++ rest) (words-append xs ys) ∙ sym (append_assoc (run page) (words xs) (words ys))
+
+-- and the place after them
+pub place-append : (xs ys : List Piece) → place (xs ++ ys) ≡ place xs + place ys
+place-append xs ys = ap length (words-append xs ys) ∙ length-append (words xs) (words ys)
+
+-- the place after a run
+pub place-run : (page : Page) (rest : List Piece) → place (Run page ∷ rest) ≡ length (run page) + place rest
+place-run page rest = length-append (run page) (words rest)
+
+-- idle pieces give idle words
+pub words-idle_append : (k : ℕ) (rest : List Piece) → words (replicate k Idle ++ rest) ≡ replicate k IDLE ++ words rest
+words-idle_append zero rest = refl
+words-idle_append (suc k) rest = ap (λ w. IDLE ∷ w) (words-idle_append k rest)
+
+-- the same with nothing after them
+pub words-idle : (k : ℕ) → words (replicate k Idle) ≡ replicate k IDLE
+words-idle zero = refl
+words-idle (suc k) = ap (λ w. IDLE ∷ w) (words-idle k)
