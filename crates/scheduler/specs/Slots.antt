@@ -22,8 +22,8 @@ frame_at place = place % 16 / 2
 abbrev pub in_frame : ℕ → Page → Bool
 in_frame f page = frame page == f
 
--- What the slots are made of: the idle word, or the run of a page. No word of a run is the idle word, so a list of words has
--- one such reading.
+-- What the slots are made of: the idle word, or the run of a page. No word of the run of a page with a usable capcode is the idle
+-- word, so a list of words has one such reading.
 pub data Piece : Type 0 where
   Idle : Piece
   Run : Page → Piece

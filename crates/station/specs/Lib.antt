@@ -1,1 +1,2 @@
+pub mod AlphaPage
 pub mod PlainBlock
