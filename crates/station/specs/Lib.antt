@@ -1,2 +1,4 @@
 pub mod AlphaPage
+pub mod Commands
+pub mod Meant
 pub mod PlainBlock

@@ -9,6 +9,12 @@ use Rattle.tap_block.specs.Fields.{AreParts}
 abbrev pub IsPlain : ℕ → Type 0
 IsPlain c = (32 ≤ c) × (c ≤ 126)
 
+-- a content is two fields of printable characters
+pub record ArePlainFields (content first second : List ℕ) : Type 0 where
+  pub parts : AreParts content first second
+  pub plain_first : All IsPlain first
+  pub plain_second : All IsPlain second
+
 -- The characters are one block, whose end is ETX and whose body has at most 250 characters; its trailer is right; and its
 -- content is two fields of printable characters, of which the second is the text.
 pub record IsPlainBlock (x text : List ℕ) : Type 0 where
@@ -18,6 +24,4 @@ pub record IsPlainBlock (x text : List ℕ) : Type 0 where
   pub short : length body ≤ 250
   pub right : IsTrue (is_right body Etx trailer)
   pub id : List ℕ
-  pub parts : AreParts body id text
-  pub plain_id : All IsPlain id
-  pub plain_text : All IsPlain text
+  pub fields : ArePlainFields body id text

@@ -3,4 +3,5 @@ pub mod OneReading
 pub mod Exists
 pub mod Parts
 pub mod Values
+pub mod WholeBlocks
 mod Rows
