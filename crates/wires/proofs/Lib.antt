@@ -1,0 +1,6 @@
+pub mod Causes
+pub mod Written
+pub mod Left
+pub mod Calls
+pub mod Exactly
+pub mod Stacked
