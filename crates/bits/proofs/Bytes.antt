@@ -2,7 +2,6 @@
 use Rattle.std.proofs.Common.{◌≡◌, ℕ, zero, suc, ◌+◌, ◌*◌, ◌/◌, ◌%◌, ◌^◌, ◌==◌, Bool, List, [], ◌∷◌, ◌++◌, length, take, refl, ap, sym, ◌∙◌, append_assoc, append-nil, arith, flat_map}
 use Rattle.std.proofs.Math.Nat.{div-div-eq-div-mul}
 use Rattle.std.proofs.Math.Seq.{take-append-add}
-use Rattle.std.proofs.lemmas.Nat.{pow-add}
 use Rattle.std.proofs.lemmas.Grind.{common_steps}
 use Rattle.std.specs.Int.{to_be_bytes, w32}
 use Rattle.bits.specs.Bits.{bits_of, word_bits, words_bits, bytes_bits}
@@ -20,7 +19,7 @@ bits_of-add n (suc m) w =
     let p : 2 ^ suc m ≡ 2 * 2 ^ m = omega arith in
     let last : List Bool = (w % 2 == 1) ∷ [] in
     let joined : bits_of (n + m) (w / 2) ++ last ≡ bits_of n (w / (2 * 2 ^ m)) ++ (bits_of m (w / 2) ++ last) =
-      rw (bits_of-add n m (w / 2), div-div-eq-div-mul w 2 (2 ^ m)) (append_assoc (bits_of n (w / (2 * 2 ^ m))) (bits_of m (w / 2)) last) in
+    rw (bits_of-add n m (w / 2), div-div-eq-div-mul w 2 (2 ^ m)) (append_assoc (bits_of n (w / (2 * 2 ^ m))) (bits_of m (w / 2)) last) in
     rw (s, p) joined
 
 -- the bits of a byte are those of its lowest eight bits

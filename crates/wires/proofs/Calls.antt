@@ -1,5 +1,5 @@
 -- Which calls of a fake fail.
-use Rattle.std.proofs.Common.{◌≡◌, ℕ, suc, ◌+◌, ◌<◌, ◌≤◌, ◌&&◌, get_or, nat_le, nat_eq, Bool, true, false, List, [], ◌∷◌, IsTrue, refl, arith}
+use Rattle.std.proofs.Common.{◌≡◌, ℕ, suc, ◌+◌, ◌<◌, ◌≤◌, get_or, nat_le, nat_eq, false, List, [], ◌∷◌, IsTrue, refl, arith}
 use Rattle.std.proofs.lemmas.Bool.Decides.{nat_tests}
 use Rattle.std.specs.List.{list_any}
 use Rattle.wires.specs.Calls.{CallsMade, none_to_come, is_steady, next_fails}

@@ -1,13 +1,12 @@
 -- Writes one after another.
-use Rattle.std.proofs.Common.{add-one, zero, suc, ◌∷◌, ◌<◌, drop, get_or, ◌≡◌, ℕ, ◌+◌, ◌≤◌, Bool, List, [], ◌++◌, length, take, Result, Ok, Err, IsOk, IsErr, IsTrue, refl, sym, ◌∙◌, ap, subst, true, false, ◌&&◌, arith, append_assoc, append-nil, length-append}
+use Rattle.std.proofs.Common.{add-one, zero, suc, ◌∷◌, ◌<◌, drop, get_or, ◌≡◌, ℕ, ◌+◌, Bool, List, [], ◌++◌, length, take, Result, Ok, Err, IsOk, IsErr, IsTrue, refl, sym, ◌∙◌, ap, subst, true, false, ◌&&◌, arith, append_assoc, append-nil, length-append}
 use Rattle.std.proofs.lemmas.List.{take-append-le}
 use Rattle.std.proofs.Math.Seq.{take-append-add}
 use Rattle.std.specs.List.{flat_map}
 use Rattle.bits.proofs.Bytes.{words_bits-append}
 use Rattle.bits.specs.Bits.{words_bits}
-use Rattle.wires.specs.Causes.{HasCause}
-use Rattle.wires.specs.Written.{Written, Puts, Appends, AppendsFront}
-use Rattle.wires.proofs.Causes.{cause_then, cause_ok, cause_err}
+use Rattle.wires.specs.Written.{Written, Puts, Appends}
+use Rattle.wires.proofs.Causes.{cause_then, cause_err}
 
 pub still : {a b : Bool} → b ≡ a → IsTrue a → IsTrue b
 still e t = subst IsTrue (sym e) t
@@ -26,41 +25,47 @@ no_ok T E e h = cc
 
 appends_then : {A T E : Type 0} (a b c p q : List A) (r : Result T E) → b ≡ a ++ p → Appends b c q r → Appends a c (p ++ q) r
 appends_then a b c p q (Ok x) h k = k ∙ (ap (λ (xs : List _). xs ++ q) h ∙ append_assoc a p q)
-appends_then a b c p q (Err e) h k =
-    (length p + k.0, omega (arith, k.1, length-append p q),
-     k.2 ∙ (ap (λ (xs : List _). xs ++ take k.0 q) h ∙ (append_assoc a p (take k.0 q) ∙ ap (λ (xs : List _). a ++ xs) (sym (take-append-add p q k.0)))))
+appends_then a b c p q (Err e) h k = (
+  length p + k.0,
+  omega (arith, k.1, length-append p q),
+  k.2 ∙ (ap (λ (xs : List _). xs ++ take k.0 q) h ∙ (append_assoc a p (take k.0 q) ∙ ap (λ (xs : List _). a ++ xs) (sym (take-append-add p q k.0)))),
+)
 
 -- a write after one that succeeded
 pub Puts-then : {A T U E F : Type 0} (a b c : Written A) (p q : List A) (x : T) (r : Result U F) → Puts {E = E} a b p (Ok x) → Puts b c q r → Puts a c (p ++ q) r
 Puts-then a b c p q x r h k = record {
-    tells = k.tells ∙ h.tells;
-    held = λ t. appends_then a.held b.held c.held p q r (h.held t) (k.held (still h.tells t));
-    room = λ t. k.room (still h.tells t) ∙ h.room t;
-    steady = λ t s fits.
-        let one = h.steady t s (omega (arith, length-append p q, fits)) in
-        k.steady (still h.tells t) one.1 (omega (arith, length-append p q, fits, h.room t, ap length (h.held t), length-append a.held p));
-    faults = cause_then h.faults k.faults;
-    lent = k.lent ∙ h.lent
-  }
+  tells = k.tells ∙ h.tells;
+  held = λ t. appends_then a.held b.held c.held p q r (h.held t) (k.held (still h.tells t));
+  room = λ t. k.room (still h.tells t) ∙ h.room t;
+  steady = λ t s fits.
+      let one = h.steady t s (omega (arith, length-append p q, fits)) in
+      k.steady (still h.tells t) one.1 (omega (arith, length-append p q, fits, h.room t, ap length (h.held t), length-append a.held p));
+  faults = cause_then h.faults k.faults;
+  lent = k.lent ∙ h.lent;
+}
 
 -- a failed write of the front of a longer piece
 pub Puts-cut : {A T U E F : Type 0} (a b : Written A) (p q : List A) (e : E) (r : Result U F) → IsErr r → Puts {T = T} a b p (Err e) → Puts a b (p ++ q) r
 Puts-cut a b p q e (Ok x) k h = cc
 Puts-cut {T} {E} a b p q e (Err f) k h = record {
-    tells = h.tells;
-    held = λ t. let k = h.held t in (k.0, omega (arith, k.1, length-append p q), k.2 ∙ ap (λ (xs : List _). a.held ++ xs) (sym (take-append-le k.0 p q k.1)));
-    room = h.room;
-    steady = λ t s fits. no_ok T E e (h.steady t s (omega (arith, length-append p q, fits))).0;
-    faults = cause_err e f h.faults;
-    lent = h.lent
-  }
+  tells = h.tells;
+  held = λ t. let k = h.held t in (k.0, omega (arith, k.1, length-append p q), k.2 ∙ ap (λ (xs : List _). a.held ++ xs) (sym (take-append-le k.0 p q k.1)));
+  room = h.room;
+  steady = λ t s fits. no_ok T E e (h.steady t s (omega (arith, length-append p q, fits))).0;
+  faults = cause_err e f h.faults;
+  lent = h.lent;
+}
 
 -- nothing was written
 pub Puts-nothing : {A T E : Type 0} (a : Written A) (x : T) → Puts {E = E} a a [] (Ok x)
 Puts-nothing a x = record {
-    tells = refl; held = λ _. sym (append-nil a.held); room = λ _. refl; steady = λ t s _. (refl, s);
-    faults = record { later = omega arith; failed = tt; kept = refl }; lent = refl
-  }
+  tells = refl;
+  held = λ _. sym (append-nil a.held);
+  room = λ _. refl;
+  steady = λ t s _. (refl, s);
+  faults = record { later = omega arith; failed = tt; kept = refl };
+  lent = refl;
+}
 
 -- a piece for each of a list, up to one of them
 pub flat_map-take : {X A : Type 0} (f : X → List A) (xs : List X) (i : ℕ) (d : X) → i < length xs → flat_map f (take (suc i) xs) ≡ flat_map f (take i xs) ++ f (get_or xs i d)

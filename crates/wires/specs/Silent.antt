@@ -17,9 +17,17 @@ silent_sink faults = record { tells = false; held = []; room = 0; steady = false
 -- a shelf
 abbrev pub silent_shelf : ℕ → Files
 silent_shelf faults = record {
-    tells = false; there = λ _. false; file = λ _. []; fresh = λ _. false; room = λ _. 0; fresh_room = 0; further = false;
-    steady = false; faults = faults; lent = []
-  }
+  tells = false;
+  there = λ _. false;
+  file = λ _. [];
+  fresh = λ _. false;
+  room = λ _. 0;
+  fresh_room = 0;
+  further = false;
+  steady = false;
+  faults = faults;
+  lent = [];
+}
 
 -- a connection of which nothing is told
 abbrev pub silent_connection : Connection
@@ -39,6 +47,15 @@ no_faults = record { gate = 0; hear = 0; say = 0; hang = 0 }
 -- a wire, by its counts
 abbrev pub silent_wire : LineFaults → Line
 silent_wire faults = record {
-    tells = false; count = 0; connection = λ _. silent_connection; opened = 0; is_open = false; steady = false;
-    gate = faults.gate; hear = faults.hear; say = faults.say; hang = faults.hang; lent = []
-  }
+  tells = false;
+  count = 0;
+  connection = λ _. silent_connection;
+  opened = 0;
+  is_open = false;
+  steady = false;
+  gate = faults.gate;
+  hear = faults.hear;
+  say = faults.say;
+  hang = faults.hang;
+  lent = [];
+}

@@ -99,7 +99,12 @@ impl Model for MemorySource {
 impl MemorySource {
     /// Gives these bytes, at most `cut` of them in one call, which is at least 1. Its calls whose numbers, from 1, stand
     /// in `failing` fail.
-    pub fn new(alloc: Global, bytes: &[u8], cut: usize, failing: &[u64]) -> Result<MemorySource, Memory>
+    pub fn new(
+        alloc: Global,
+        bytes: &[u8],
+        cut: usize,
+        failing: &[u64],
+    ) -> Result<MemorySource, Memory>
         requires { 0 < cut }
         ensures { IfOk result (λ s. s ≡ record { left = bytes.now; cut = cut; calls = no_calls failing.now }) }
     {

@@ -37,6 +37,8 @@ pub mod nothing;
 pub mod shelf;
 pub mod sink;
 pub mod source;
+#[cfg(test)]
+mod tests;
 pub mod wire;
 
 /// A fault of the outside: what was read from, written to or talked over did not do it.

@@ -5,9 +5,9 @@ ghost use Rattle.wires.specs.Files.{AppendsTo, Freshens, ReadsAt};
 ghost use Rattle.wires.specs.Line.{Dials, HangsUp, Hears, Listens, Opens, Says};
 ghost use Rattle.wires.specs.Silent.{no_faults, silent_shelf, silent_wire};
 
-use crate::{Failed, raise};
 use crate::shelf::Shelf;
 use crate::wire::Wire;
+use crate::{Failed, raise};
 use std::marker::Model;
 
 /// No shelf. It tells nothing but its faults.

@@ -7,10 +7,10 @@ pub returns-then-next-clause-takes : goal.returns-then-next-clause-takes
 returns-then-next-clause-takes c =
     let s = c.self.inside in
     takes_exactly c.args.self.now (record { left = drop s.at s.bytes.items; cut = s.cut; calls = c.fault.new.self }) c.args.into.now _
-      (search rules) (search rules) (search rules) c.requires (search rules)
+    (search rules) (search rules) (search rules) c.requires (search rules)
 
 pub returns-clause-takes : goal.returns-clause-takes
 returns-clause-takes c =
     let s = c.self.inside in
     takes_exactly c.args.self.now (record { left = drop (s.at + c.move_front-n.result) s.bytes.items; cut = s.cut; calls = c.next.new.self }) c.move_front-n.new.into _
-      (grind (arith, common_steps)) (search rules) (search rules) (search rules) (search rules)
+    (grind (arith, common_steps)) (search rules) (search rules) (search rules) (search rules)

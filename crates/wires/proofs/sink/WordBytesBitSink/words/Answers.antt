@@ -1,5 +1,4 @@
 use Rattle.std.proofs.Common.{◌++◌, ap, append_assoc, sym, ◌∙◌, List, ℕ}
-use Rattle.wires.specs.Stacked.{bits_over}
 use Rattle.wires.proofs.Written.{Puts_words-fails, Puts_words-then}
 use Rattle.wires.proofs.sink.WordBytesBitSink.words.Goals as goal
 
