@@ -1,3 +1,4 @@
+pub mod Bytes
 pub mod Distances
 pub mod Lengths
 pub mod Numbers

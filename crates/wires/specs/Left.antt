@@ -1,0 +1,50 @@
+-- What an object that is read from has left.
+use Rattle.std.specs.Prelude.{◌≡◌, ℕ, ◌≤◌, ◌↔◌, Bool, List, [], ◌∷◌, ◌++◌, length, take, Result, Ok, Err, Option, Some, None, IsOk, IsTrue, IfOk}
+use Rattle.wires.specs.Causes.{HasCause}
+use Rattle.wires.specs.Held.{Held}
+
+-- what an object tells that bytes or bits are read from
+pub record Left (A : Type 0) : Type 0 where
+  -- whether it tells its content: what is left and whether it is steady, which mean nothing where it does not
+  pub tells : Bool
+  pub left : List A
+  -- no read fails
+  pub steady : Bool
+  pub faults : ℕ
+  pub lent : List Held
+
+-- the first n of what was left came out at the front of the buffer, and none exactly where none was left. After Failed nothing came out
+abbrev pub Consumes : {A E : Type 0} → List A → List A → List A → Result ℕ E → Type 0
+Consumes old new buffer (Ok n) = (old ≡ take n buffer ++ new) × ((n ≡ 0) ↔ (old ≡ []))
+Consumes old new buffer (Err _) = new ≡ old
+
+-- a read into a buffer, which fails in no steady object
+pub record Takes {A E : Type 0} (old new : Left A) (buffer : List A) (result : Result ℕ E) : Type 0 where
+  pub tells : new.tells ≡ old.tells
+  pub within : IfOk result (λ n. n ≤ length buffer)
+  pub left : IsTrue old.tells → Consumes old.left new.left buffer result
+  pub steady : IsTrue old.tells → IsTrue old.steady → IsOk result × IsTrue new.steady
+  pub faults : HasCause old.faults new.faults result
+  pub lent : new.lent ≡ old.lent
+
+-- the first of what was left came out, or None where none was left. After Failed nothing came out
+abbrev pub Pops : {A E : Type 0} → List A → List A → Result (Option A) E → Type 0
+Pops old new (Ok (Some x)) = old ≡ x ∷ new
+Pops old new (Ok None) = (old ≡ []) × (new ≡ [])
+Pops old new (Err _) = new ≡ old
+
+-- a read of one, which fails in no steady object
+pub record TakesOne {A E : Type 0} (old new : Left A) (result : Result (Option A) E) : Type 0 where
+  pub tells : new.tells ≡ old.tells
+  pub left : IsTrue old.tells → Pops old.left new.left result
+  pub steady : IsTrue old.tells → IsTrue old.steady → IsOk result × IsTrue new.steady
+  pub faults : HasCause old.faults new.faults result
+  pub lent : new.lent ≡ old.lent
+
+-- some reads, none of which failed, took this
+pub record Took {A : Type 0} (old new : Left A) (taken : List A) : Type 0 where
+  pub tells : new.tells ≡ old.tells
+  pub left : IsTrue old.tells → old.left ≡ taken ++ new.left
+  pub steady : IsTrue old.tells → IsTrue old.steady → IsTrue new.steady
+  pub faults : new.faults ≡ old.faults
+  pub lent : new.lent ≡ old.lent

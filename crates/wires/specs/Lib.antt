@@ -1,0 +1,10 @@
+pub mod Causes
+pub mod Held
+pub mod Written
+pub mod Left
+pub mod Line
+pub mod Files
+pub mod Silent
+pub mod Calls
+pub mod Fakes
+pub mod Stacked

@@ -1,0 +1,128 @@
+//! What no clause says: each type once through its bound, at the calls that fail, and the order of bytes.
+use crate::callers::{
+    Copied, answer_one, copy, holds_a_byte, ring, two_words, words_over, write_file,
+};
+use crate::fakes::{MemorySink, MemorySource};
+use crate::nothing::{NoShelf, NoWire};
+use crate::shelf::Shelf;
+use crate::sink::{BitSink, Sink, WordBytes};
+use crate::source::Source;
+use crate::wire::Wire;
+use crate::{Failed, Memory};
+use std::test::Fail;
+
+#[test]
+fn a_source_gives_all_its_bytes_whatever_its_cut(rt: HostRuntime) -> Result<(), Fail> {
+    for cut in [1, 2, 3, 9] {
+        let mut source = MemorySource::new(rt.alloc(), b"seven B", cut, &[])?;
+        let mut sink = MemorySink::new(rt.alloc(), 7, &[])?;
+        assert_eq!(rt; copy(&mut source, &mut sink), Copied::Whole, "at {cut}");
+        assert_eq!(rt; sink.bytes(), b"seven B".as_slice(), "at {cut}");
+        assert_eq!(rt; source.take(&mut [0; 4]), Ok(0), "at {cut}");
+    }
+    Ok(())
+}
+
+#[test]
+fn a_source_gives_at_most_its_cut(rt: HostRuntime) -> Result<(), Fail> {
+    for (cut, gives) in [
+        (1, [1, 1, 1, 1, 1, 0]),
+        (2, [2, 2, 1, 0, 0, 0]),
+        (3, [3, 2, 0, 0, 0, 0]),
+        (9, [4, 1, 0, 0, 0, 0]),
+    ] {
+        let mut source = MemorySource::new(rt.alloc(), b"12345", cut, &[])?;
+        for want in gives {
+            assert_eq!(rt; source.take(&mut [0; 4]), Ok(want), "at {cut}");
+        }
+    }
+    Ok(())
+}
+
+#[test]
+fn a_source_fails_exactly_at_its_failing_calls(rt: HostRuntime) -> Result<(), Fail> {
+    let mut source = MemorySource::new(rt.alloc(), b"ab", 1, &[2, 4])?;
+    for want in [Ok(1), Err(Failed), Ok(1), Err(Failed), Ok(0), Ok(0)] {
+        assert_eq!(rt; source.take(&mut [0; 4]), want);
+    }
+    Ok(())
+}
+
+#[test]
+fn a_sink_fails_exactly_at_its_failing_calls_and_past_its_room(
+    rt: HostRuntime,
+) -> Result<(), Fail> {
+    let mut sink = MemorySink::new(rt.alloc(), 5, &[2])?;
+    for (piece, want, holds) in [
+        (b"abc".as_slice(), Ok(()), b"abc".as_slice()),
+        (b"d".as_slice(), Err(Failed), b"abc".as_slice()),
+        (b"def".as_slice(), Err(Failed), b"abc".as_slice()),
+        (b"de".as_slice(), Ok(()), b"abcde".as_slice()),
+        (b"".as_slice(), Ok(()), b"abcde".as_slice()),
+        (b"f".as_slice(), Err(Failed), b"abcde".as_slice()),
+    ] {
+        assert_eq!(rt; sink.put(piece), want);
+        assert_eq!(rt; sink.bytes(), holds);
+    }
+    Ok(())
+}
+
+#[test]
+fn copying_stops_at_a_failing_call(rt: HostRuntime) -> Result<(), Fail> {
+    let mut source = MemorySource::new(rt.alloc(), b"abc", 1, &[3])?;
+    let mut sink = MemorySink::new(rt.alloc(), 3, &[])?;
+    assert_eq!(rt; copy(&mut source, &mut sink), Copied::SourceFailed);
+    assert_eq!(rt; sink.bytes(), b"ab".as_slice());
+    let mut full = MemorySink::new(rt.alloc(), 0, &[])?;
+    assert_eq!(rt; copy(&mut source, &mut full), Copied::SinkFailed);
+    Ok(())
+}
+
+#[test]
+fn a_word_is_four_bytes_the_most_significant_first(rt: HostRuntime) -> Result<(), Fail> {
+    let mut sink = MemorySink::new(rt.alloc(), 12, &[])?;
+    let mut words = WordBytes::over(&mut sink);
+    assert_eq!(rt; words.word(0x7CD2_15D8), Ok(()));
+    assert_eq!(rt; two_words(&mut words, 0x7A89_C197, 1), Ok(()));
+    assert_eq!(rt; words.word(2), Err(Failed));
+    assert_eq!(rt;
+        sink.bytes(),
+        [0x7C, 0xD2, 0x15, 0xD8, 0x7A, 0x89, 0xC1, 0x97, 0, 0, 0, 1].as_slice()
+    );
+    Ok(())
+}
+
+#[test]
+fn forty_words_arrive_whole_in_two_pieces(rt: HostRuntime) -> Result<(), Fail> {
+    let mut sink = MemorySink::new(rt.alloc(), 160, &[3])?;
+    assert_eq!(rt; words_over(&mut sink, &[0x0102_0304; 40]), Ok(()));
+    assert_eq!(rt; sink.bytes().len(), 160);
+    for four in sink.bytes().chunks(4) {
+        assert_eq!(rt; four, [1, 2, 3, 4].as_slice());
+    }
+    assert_eq!(rt; sink.put(b""), Err(Failed), "the third call");
+    Ok(())
+}
+
+#[test]
+fn a_shelf_that_is_not_there_fails_at_every_call(rt: HostRuntime) {
+    let mut shelf = NoShelf::new();
+    assert_eq!(rt; shelf.read("a", 0, &mut [0; 1]), Err(Failed));
+    assert_eq!(rt; shelf.fresh("a"), Err(Failed));
+    assert_eq!(rt; shelf.append("a", b""), Err(Failed));
+    assert_eq!(rt; write_file(&mut shelf, "a", b"b"), Err(Failed));
+    assert_eq!(rt; holds_a_byte(&mut shelf, "a"), Err(Failed));
+}
+
+#[test]
+fn a_wire_that_is_not_there_fails_at_every_call(rt: HostRuntime) {
+    let mut wire = NoWire::new();
+    assert_eq!(rt; wire.listen("a"), Err(Failed));
+    assert_eq!(rt; wire.next(), Err(Failed));
+    assert_eq!(rt; wire.dial("a"), Err(Failed));
+    assert_eq!(rt; wire.hear(&mut [0; 1]), Err(Failed));
+    assert_eq!(rt; wire.say(b"a"), Err(Failed));
+    assert_eq!(rt; wire.hang_up(), Err(Failed));
+    assert_eq!(rt; answer_one(&mut wire, "a", b"b"), Err(Failed));
+    assert_eq!(rt; ring(&mut wire, "a"), Err(Failed));
+}
