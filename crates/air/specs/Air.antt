@@ -10,7 +10,7 @@ abbrev pub filler : ℕ
 filler = 0xAAAAAAAA
 
 -- the preamble: 576 bits, which are 18 words
-abbrev pub preamble : List ℕ
+unfoldable pub preamble : List ℕ
 preamble = replicate 18 filler
 
 -- n batches: each is the sync word and 16 slots

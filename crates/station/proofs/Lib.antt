@@ -1,2 +1,6 @@
+pub mod AlphaPage
 pub mod CommandLines
+pub mod Fronts
+pub mod OnePages
 pub mod PlainBlocks
+pub mod Sendings

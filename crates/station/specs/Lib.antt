@@ -1,4 +1,9 @@
 pub mod AlphaPage
 pub mod Commands
+pub mod Input
 pub mod Meant
 pub mod PlainBlock
+pub mod Rows
+pub mod Sends
+pub mod Statuses
+pub mod Wrote

@@ -1,0 +1,93 @@
+-- What a run does, command by command and status by status.
+use Rattle.std.specs.Prelude.{◌≡◌, ℕ, Bool, List, [], ◌∷◌, Option, Some, None, IsTrue}
+use Rattle.air.specs.Air.{IsAir}
+use Rattle.page_text.specs.Page.{IsAcceptable}
+use Rattle.tap_block.specs.Chars.{characters}
+use Rattle.wires.specs.Causes.{Rose}
+use Rattle.wires.specs.Files.{Files}
+use Rattle.wires.specs.Left.{Left}
+use Rattle.wires.specs.Line.{Line}
+use Rattle.wires.specs.Written.{Written}
+use Rattle.station.specs.declared.statuses.Status.{Status}
+use Rattle.station.specs.declared.statuses.Status.TheVariants.{Done, Usage, OutFault, InputFault, NotBlock, Memory}
+use Rattle.station.specs.AlphaPage.{alpha_page}
+use Rattle.station.specs.Commands.{AreCommand, Command, One}
+use Rattle.station.specs.PlainBlock.{IsPlainBlock}
+use Rattle.station.specs.Statuses.{line_of}
+use Rattle.station.specs.Wrote.{as_bits, Wrote, WroteFront}
+
+-- what the input and the output of a command tell
+pub record Streams : Type 0 where
+  pub input : Left ℕ
+  pub out : Written ℕ
+
+-- The input was read whole, and it is the block of this text. No fault of it was counted.
+pub record ReadBlock (old new : Left ℕ) (text : List ℕ) : Type 0 where
+  pub tells : new.tells ≡ old.tells
+  pub block : IsTrue old.tells → IsPlainBlock (characters old.left) text
+  pub whole : IsTrue old.tells → new.left ≡ []
+  pub faults : new.faults ≡ old.faults
+  pub lent : new.lent ≡ old.lent
+
+-- The input was read as far as it takes to see that it is no block of any text. No fault of it was counted.
+pub record ReadNoBlock (old new : Left ℕ) : Type 0 where
+  pub tells : new.tells ≡ old.tells
+  pub no_block : IsTrue old.tells → (text : List ℕ) → IsPlainBlock (characters old.left) text → ⊥
+  pub faults : new.faults ≡ old.faults
+  pub lent : new.lent ≡ old.lent
+
+-- A read failed, and a fault of the input was counted, which no steady input has.
+pub record ReadFailed (old new : Left ℕ) : Type 0 where
+  pub tells : new.tells ≡ old.tells
+  pub unsteady : IsTrue old.tells → IsTrue old.steady → ⊥
+  pub faults : Rose old.faults new.faults
+  pub lent : new.lent ≡ old.lent
+
+-- the page of a block, and the bits of its transmission
+pub record PageSent (capcode : ℕ) (old new : Left ℕ) : Type 0 where
+  pub text : List ℕ
+  pub read : ReadBlock old new text
+  pub acceptable : IsAcceptable (alpha_page capcode text)
+  pub bits : List Bool
+  pub air : IsAir (alpha_page capcode text ∷ []) bits
+
+-- `one`, by its status. Done: the input is one block, and the bits of the transmission of its page were written. OutFault: it is
+-- one block, and a write failed after a front of these bits. NotBlock: it is no block. InputFault: a read failed. Memory: nothing
+-- was read. No other status is answered.
+abbrev pub OneRow : ℕ → Streams → Streams → Status → Type 0
+OneRow capcode old new Done = (sent : PageSent capcode old.input new.input) × Wrote (as_bits old.out) (as_bits new.out) sent.bits
+OneRow capcode old new OutFault = (sent : PageSent capcode old.input new.input) × WroteFront (as_bits old.out) (as_bits new.out) sent.bits
+OneRow capcode old new NotBlock = ReadNoBlock old.input new.input × (new.out ≡ old.out)
+OneRow capcode old new InputFault = ReadFailed old.input new.input × (new.out ≡ old.out)
+OneRow capcode old new Memory = new ≡ old
+OneRow capcode old new other = ⊥
+
+-- what a run's command did: words that are no command's form are answered Usage, and nothing is touched
+abbrev pub Acts : Option Command → Streams → Streams → Status → Type 0
+Acts None old new status = (status ≡ Usage) × (new ≡ old)
+Acts (Some (One capcode)) old new status = OneRow capcode old new status
+
+-- The line of a status was put to err; Done and OutFault have none. Where putting it failed, the run ends with OutFault.
+abbrev pub Tells : Status → Written ℕ → Written ℕ → Status → Type 0
+Tells Done old new result = (result ≡ Done) × (new ≡ old)
+Tells OutFault old new result = (result ≡ OutFault) × (new ≡ old)
+Tells status old new OutFault = WroteFront old new (line_of status)
+Tells status old new result = (result ≡ status) × Wrote old new (line_of status)
+
+-- what all objects of a run tell
+pub record Outside : Type 0 where
+  pub wire : Line
+  pub shelf : Files
+  pub streams : Streams
+  pub err : Written ℕ
+
+-- A run: the command of its words, the status that the command came to, and the line about it. No command uses the wire or the
+-- shelf.
+pub record Runs (words : List (List ℕ)) (old new : Outside) (result : Status) : Type 0 where
+  pub command : Option Command
+  pub words_are : AreCommand words command
+  pub status : Status
+  pub acts : Acts command old.streams new.streams status
+  pub tells : Tells status old.err new.err result
+  pub wire : new.wire ≡ old.wire
+  pub shelf : new.shelf ≡ old.shelf

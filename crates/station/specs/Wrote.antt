@@ -1,0 +1,34 @@
+-- What a run wrote.
+use Rattle.std.specs.Prelude.{◌≡◌, ℕ, ◌*◌, ◌+◌, ◌≤◌, Bool, List, ◌++◌, length, IsTrue}
+use Rattle.bits.specs.Bits.{bytes_bits}
+use Rattle.wires.specs.Causes.{Rose}
+use Rattle.wires.specs.Written.{Written, AppendsFront}
+
+-- a sink of bytes as a sink of their bits
+abbrev pub as_bits : Written ℕ → Written Bool
+as_bits sink = record {
+  tells = sink.tells;
+  held = bytes_bits sink.held;
+  room = 8 * sink.room;
+  steady = sink.steady;
+  faults = sink.faults;
+  lent = sink.lent;
+}
+
+-- the piece was written, and no fault was counted
+pub record Wrote {A : Type 0} (old new : Written A) (piece : List A) : Type 0 where
+  pub tells : new.tells ≡ old.tells
+  pub held : IsTrue old.tells → new.held ≡ old.held ++ piece
+  pub room : IsTrue old.tells → new.room + length new.held ≡ old.room + length old.held
+  pub steady : IsTrue old.tells → IsTrue old.steady → length piece ≤ old.room → IsTrue new.steady
+  pub faults : new.faults ≡ old.faults
+  pub lent : new.lent ≡ old.lent
+
+-- a front of the piece was written, and a fault was counted, which no steady sink with room for the piece has
+pub record WroteFront {A : Type 0} (old new : Written A) (piece : List A) : Type 0 where
+  pub tells : new.tells ≡ old.tells
+  pub held : IsTrue old.tells → AppendsFront old.held new.held piece
+  pub room : IsTrue old.tells → new.room + length new.held ≡ old.room + length old.held
+  pub unfit : IsTrue old.tells → IsTrue old.steady → length piece ≤ old.room → ⊥
+  pub faults : Rose old.faults new.faults
+  pub lent : new.lent ≡ old.lent
