@@ -6,11 +6,11 @@ use Rattle.codeword.specs.declared.functions.Function.TheVariants.{Numeric, Tone
 use Rattle.codeword.specs.declared.words.TheConstants.{IDLE, SYNC}
 use Rattle.codeword.specs.Words.{address_of, message_of}
 
-idle_is : IDLE ≡ address_of 2007664 Numeric
+pub idle_is : IDLE ≡ address_of 2007664 Numeric
 unfolding address_of word_of remainder ones_among
 idle_is = refl
 
-sync_is : SYNC ≡ address_of 2045056 Tone2
+pub sync_is : SYNC ≡ address_of 2045056 Tone2
 unfolding address_of word_of remainder ones_among
 sync_is = refl
 
