@@ -19,10 +19,12 @@ pub front_of-message_of : (group : ℕ) → front_of (message_of group) ≡ 2 ^ 
 unfolding message_of
 front_of-message_of group = front_of-word_of (2 ^ 20 + group)
 
+-- address words are codewords
 pub address_of-codeword : (c : ℕ) (f : Function) → c < 2 ^ 21 → IsCodeword (address_of c f)
 unfolding address_of
 address_of-codeword c f h = let n = number_of-lt f in word_of-codeword (high_of c * 2 ^ 2 + number_of f) (omega arith)
 
+-- message words are codewords
 pub message_of-codeword : (group : ℕ) → group < 2 ^ 20 → IsCodeword (message_of group)
 unfolding message_of
 message_of-codeword group h = word_of-codeword (2 ^ 20 + group) (omega arith)

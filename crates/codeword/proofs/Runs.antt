@@ -6,12 +6,14 @@ use Rattle.codeword.specs.Runs.{AddressesAreNotIdle, MessagesAreNotIdle}
 use Rattle.codeword.proofs.Rows.{idle_is, sync_is}
 use Rattle.codeword.proofs.Carried.{address_of-high, message_of-ge}
 
+-- two address words with different high bits differ, and no usable capcode has the high bits of the idle word or the sync word
 pub addresses_are_not_idle : AddressesAreNotIdle
 addresses_are_not_idle c f u = record {
   not_idle = λ e. u.not_idle (address_of-high c 2007664 f Numeric (e ∙ idle_is));
   not_sync = λ e. u.not_sync (address_of-high c 2045056 f Tone2 (e ∙ sync_is));
 }
 
+-- bit 1 of the idle word and of the sync word is 0
 pub messages_are_not_idle : MessagesAreNotIdle
 messages_are_not_idle group h = record {
   not_idle = λ e. let high : 2 ^ 31 ≤ message_of group = message_of-ge group in absurd (omega arith);
