@@ -1,4 +1,4 @@
 pub mod Carried
 pub mod Fields
-mod Rows
+mod Known
 pub mod Runs

@@ -3,7 +3,7 @@ use Rattle.std.proofs.Common.{◌^◌, ◌≤◌, arith, ◌∙◌}
 use Rattle.codeword.specs.declared.functions.Function.TheVariants.{Numeric, Tone2}
 use Rattle.codeword.specs.Words.{message_of}
 use Rattle.codeword.specs.Runs.{AddressesAreNotIdle, MessagesAreNotIdle}
-use Rattle.codeword.proofs.Rows.{idle_is, sync_is}
+use Rattle.codeword.proofs.Known.{idle_is, sync_is}
 use Rattle.codeword.proofs.Carried.{address_of-high, message_of-ge}
 
 -- two address words with different high bits differ, and no usable capcode has the high bits of the idle word or the sync word
