@@ -1,4 +1,4 @@
 pub mod Carried
 pub mod Fields
-mod Known
+pub mod Known
 pub mod Runs
