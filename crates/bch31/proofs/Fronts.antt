@@ -26,6 +26,7 @@ pub word_of-half : (d : ℕ) → word_of d / 2 ≡ d * 2 ^ 10 + remainder 31 (d 
 unfolding word_of
 word_of-half d = let s = d * 2 ^ 10 + remainder 31 (d * 2 ^ 10) in let e : (s * 2 + ones_among 31 s % 2) / 2 ≡ s = omega arith in e
 
+-- the codeword of 21 bits has 32 bits
 pub word_of-lt : (d : ℕ) → d < 2 ^ 21 → word_of d < 2 ^ 32
 word_of-lt d h = let e = word_of-half d in let r = remainder-lt 31 (d * 2 ^ 10) in omega arith
 
@@ -48,6 +49,7 @@ filled d r h =
     let b : r ≡ 0 * 2 ^ 10 + r = omega arith in
     ap₂ bit_xor a b ∙ xor_block 10 d 0 0 r (omega arith) h ∙ ap₂ (λ (x y : ℕ). x * 2 ^ 10 + y) (xor_zero_r d) (xor_zero_l r)
 
+-- its first 31 bits have remainder 0
 word_of-remainder : (d : ℕ) → d < 2 ^ 21 → remainder 31 (word_of d / 2) ≡ 0
 word_of-remainder d h =
     let r : ℕ = remainder 31 (d * 2 ^ 10) in
@@ -57,6 +59,7 @@ word_of-remainder d h =
     ∙ ap (bit_xor r) (remainder-small 31 r small (omega arith))
     ∙ xor_self r
 
+-- the number of its ones is even
 word_of-even : (d : ℕ) → d < 2 ^ 21 → ones (word_of d) % 2 ≡ 0
 unfolding word_of
 word_of-even d h =
@@ -97,6 +100,7 @@ same_codewords {v} {w} cv cw e =
     let sw = ones_step w in
     omega (arith, cv.even, cw.even)
 
+-- each front has exactly one codeword
 pub one_word : OneWord
 one_word d h = record {
   codeword = word_of-codeword d h;

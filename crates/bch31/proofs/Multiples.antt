@@ -1,5 +1,5 @@
 -- A polynomial of 31 coefficients has remainder 0 exactly if it is a xor of shifts of the generator.
-use Rattle.std.proofs.Common.{◌≡◌, ℕ, zero, suc, ◌+◌, ◌-◌, ◌*◌, ◌/◌, ◌^◌, ◌<◌, ◌≤◌, Bool, true, false, ◌&&◌, ◌==◌, if◌then◌else◌, List, [], ◌∷◌, length, arith, refl, sym, ◌∙◌, ap, ap₂, inl, inr, bit_xor, lit<, zero-add, zero-mul}
+use Rattle.std.proofs.Common.{◌≡◌, ℕ, zero, suc, ◌+◌, ◌-◌, ◌*◌, ◌/◌, ◌^◌, ◌<◌, ◌≤◌, Bool, true, false, ◌&&◌, ◌==◌, if◌then◌else◌, List, [], ◌∷◌, length, arith, refl, sym, ◌∙◌, ap, ap₂, inl, inr, bit_xor, lit<, subst}
 use Rattle.std.proofs.lemmas.Bool.{and_parts, eqb-true, cases_lt}
 use Rattle.std.specs.Int.Bits.{xor_block, xor_lt, xor_assoc, xor_zero_r}
 use Rattle.std.proofs.Math.Pow.{pow_pos, pow-add}
@@ -7,7 +7,7 @@ use Rattle.std.proofs.Math.Nat.{pow-suc}
 use Rattle.bits.proofs.Xors.{same_from_xor}
 use Rattle.bch31.specs.Codeword.{generator, chosen_shifts, IsCodeword}
 use Rattle.bch31.specs.Division.{remainder}
-use Rattle.bch31.proofs.Remainders.{remainder-xor, remainder-small}
+use Rattle.bch31.proofs.Remainders.{low_generator, remainder-xor, remainder-small}
 
 -- the test holds of each number below n
 unfoldable pub all_below : (ℕ → Bool) → ℕ → Bool
@@ -19,6 +19,7 @@ shifts_vanish : all_below (λ n. remainder 31 (generator * 2 ^ n) == 0) 21 ≡ t
 unfolding all_below remainder
 shifts_vanish = refl
 
+-- and so of one of them
 pub all_below_at : (p : ℕ → Bool) (n k : ℕ) → all_below p n ≡ true → k < n → p k ≡ true
 unfolding all_below
 all_below_at p zero k h lt = absurd (omega arith)
@@ -31,13 +32,16 @@ all_below_at p (suc n) k h lt =
           rw e parts.0
     ]
 
+-- the same of one shift
 shift_remainder : (n : ℕ) → n < 21 → remainder 31 (generator * 2 ^ n) ≡ 0
 shift_remainder n h = eqb-true (remainder 31 (generator * 2 ^ n)) 0 (all_below_at (λ n. remainder 31 (generator * 2 ^ n) == 0) 21 n shifts_vanish h)
 
+-- nothing has remainder 0
 zero_remainder : remainder 31 0 ≡ 0
 unfolding remainder
 zero_remainder = refl
 
+-- a shift or nothing has remainder 0
 choice_remainder : (b : Bool) (n : ℕ) → n < 21 → remainder 31 (if b then generator * 2 ^ n else 0) ≡ 0
 choice_remainder true n h = shift_remainder n h
 choice_remainder false n h = zero_remainder
@@ -50,9 +54,10 @@ chosen_remainder (b ∷ bs) h =
     ∙ ap₂ bit_xor (choice_remainder b (length bs) h) (chosen_remainder bs (omega arith))
 
 -- a shift of the generator below the next power of two
-shift_splits : (n : ℕ) → generator * 2 ^ n ≡ 1 * 2 ^ (n + 10) + 0x369 * 2 ^ n
+shift_splits : (n : ℕ) → generator * 2 ^ n ≡ 1 * 2 ^ (n + 10) + low_generator * 2 ^ n
 shift_splits n = let e : 2 ^ (n + 10) ≡ 2 ^ n * 1024 = pow-add 2 n 10 in omega arith
 
+-- a shift by n, or nothing, has n + 11 bits
 choice-lt : (b : Bool) (n : ℕ) → (if b then generator * 2 ^ n else 0) < 2 ^ (suc n + 10)
 choice-lt true n =
     let e : 2 ^ (suc n + 10) ≡ 2 ^ n * 2048 = pow-add 2 (suc n) 10 ∙ ap (λ (x : ℕ). x * 1024) (pow-suc 2 n) ∙ omega arith in
@@ -68,17 +73,38 @@ chosen-lt (b ∷ bs) =
     let e : 2 ^ (suc (length bs) + 10) ≡ 2 ^ (length bs + 10) * 2 = ap (λ (x : ℕ). 2 ^ x) (omega arith) ∙ pow-suc 2 (length bs + 10) in
     xor_lt (suc (length bs) + 10) (if b then generator * 2 ^ length bs else 0) (chosen_shifts bs) (choice-lt b (length bs)) (omega arith)
 
-low_shift : (n : ℕ) → 0x369 * 2 ^ n < 2 ^ (n + 10)
+-- without its highest bit it has n + 10 bits
+low_shift : (n : ℕ) → low_generator * 2 ^ n < 2 ^ (n + 10)
 low_shift n = let e : 2 ^ (n + 10) ≡ 2 ^ n * 1024 = pow-add 2 n 10 in let pos = pow_pos n in omega arith
 
--- long division: the shifts to take off so that ten bits are left
-
-pub record Division (n x : ℕ) : Type 0 where
+-- ten bits are left of x once n chosen shifts are taken off
+record Division (n x : ℕ) : Type 0 where
   pub shifts : List Bool
   pub shifts_len : length shifts ≡ n
   pub rest-lt : bit_xor x (chosen_shifts shifts) < 1024
 
-pub divide : (n x : ℕ) → x < 2 ^ (n + 10) → Division n x
+-- a shift takes the highest bit off
+shift_taken : (n rest : ℕ) → rest < 2 ^ (n + 10) → bit_xor (2 ^ (n + 10) + rest) (generator * 2 ^ n) ≡ bit_xor rest (low_generator * 2 ^ n)
+shift_taken n rest h =
+    let one : 2 ^ (n + 10) + rest ≡ 1 * 2 ^ (n + 10) + rest = omega arith in
+    let gone : 0 * 2 ^ (n + 10) + bit_xor rest (low_generator * 2 ^ n) ≡ bit_xor rest (low_generator * 2 ^ n) = omega arith in
+    ap₂ bit_xor one (shift_splits n) ∙ xor_block (n + 10) 1 1 rest (low_generator * 2 ^ n) h (low_shift n) ∙ gone
+
+-- one more shift, where the highest bit is a one
+divide_high : (n rest : ℕ) → rest < 2 ^ (n + 10) → Division n (bit_xor rest (low_generator * 2 ^ n)) → Division (suc n) (2 ^ (n + 10) + rest)
+divide_high n rest h d = record {
+  shifts = true ∷ d.shifts;
+  shifts_len = ap suc d.shifts_len;
+  rest-lt =
+      let same : bit_xor (2 ^ (n + 10) + rest) (bit_xor (generator * 2 ^ length d.shifts) (chosen_shifts d.shifts)) ≡ bit_xor (bit_xor rest (low_generator * 2 ^ n)) (chosen_shifts d.shifts) =
+      ap (λ (m : ℕ). bit_xor (2 ^ (n + 10) + rest) (bit_xor (generator * 2 ^ m) (chosen_shifts d.shifts))) d.shifts_len
+      ∙ sym (xor_assoc (2 ^ (n + 10) + rest) (generator * 2 ^ n) (chosen_shifts d.shifts))
+      ∙ ap (λ (y : ℕ). bit_xor y (chosen_shifts d.shifts)) (shift_taken n rest h) in
+      rw same d.rest-lt;
+}
+
+-- long division
+divide : (n x : ℕ) → x < 2 ^ (n + 10) → Division n x
 divide zero x h =
     let e : bit_xor x 0 ≡ x = xor_zero_r x in
     record { shifts = []; shifts_len = refl; rest-lt = rw e h }
@@ -89,23 +115,11 @@ divide (suc n) x h =
           let d = divide n x low in
           record { shifts = false ∷ d.shifts; shifts_len = ap suc d.shifts_len; rest-lt = d.rest-lt }
       | inr high ↦
-          let s = generator * 2 ^ n in
-          let block = xor_block (n + 10) 1 1 (x - 2 ^ (n + 10)) (0x369 * 2 ^ n) (omega arith) (low_shift n) in
-          let w : x ≡ 1 * 2 ^ (n + 10) + (x - 2 ^ (n + 10)) = omega arith in
-          let f : bit_xor x (generator * 2 ^ n) ≡ bit_xor (x - 2 ^ (n + 10)) (0x369 * 2 ^ n) =
-          ap₂ bit_xor w (shift_splits n) ∙ block ∙ ap (λ (y : ℕ). y + bit_xor (x - 2 ^ (n + 10)) (0x369 * 2 ^ n)) (zero-mul (2 ^ (n + 10)))
-          ∙ zero-add (bit_xor (x - 2 ^ (n + 10)) (0x369 * 2 ^ n)) in
-          let b : bit_xor (x - 2 ^ (n + 10)) (0x369 * 2 ^ n) < 2 ^ (n + 10) = xor_lt (n + 10) (x - 2 ^ (n + 10)) (0x369 * 2 ^ n) (omega arith) (low_shift n) in
-          let d = divide n (bit_xor x (generator * 2 ^ n)) (rw f b) in
-          record {
-            shifts = true ∷ d.shifts;
-            shifts_len = ap suc d.shifts_len;
-            rest-lt =
-                let g : bit_xor x (bit_xor (generator * 2 ^ length d.shifts) (chosen_shifts d.shifts)) ≡ bit_xor (bit_xor x (generator * 2 ^ n)) (chosen_shifts d.shifts) =
-                ap (λ (m : ℕ). bit_xor x (bit_xor (generator * 2 ^ m) (chosen_shifts d.shifts))) d.shifts_len
-                ∙ sym (xor_assoc x (generator * 2 ^ n) (chosen_shifts d.shifts)) in
-                rw g d.rest-lt;
-          }
+          let rest : ℕ = x - 2 ^ (n + 10) in
+          let whole : 2 ^ (n + 10) + rest ≡ x = omega arith in
+          let small : rest < 2 ^ (n + 10) = omega arith in
+          let d = divide n (bit_xor rest (low_generator * 2 ^ n)) (xor_lt (n + 10) rest (low_generator * 2 ^ n) small (low_shift n)) in
+          subst (λ (y : ℕ). Division (suc n) y) whole (divide_high n rest small d)
     ]
 
 -- a polynomial of 31 coefficients with remainder 0 is a multiple

@@ -6,6 +6,10 @@ use Rattle.bits.proofs.Xors.{xor_half, xor_low, xor_double, xor_swap}
 use Rattle.bch31.specs.Codeword.{generator}
 use Rattle.bch31.specs.Division.{reduce, remainder}
 
+-- the generator without its highest bit
+abbrev pub low_generator : ℕ
+low_generator = 0x369
+
 -- the generator taken 0 or 1 times
 times_generator : (p q : ℕ) → p < 2 → q < 2 → bit_xor p q * generator ≡ bit_xor (p * generator) (q * generator)
 times_generator p q hp hq = elim (below_two p hp) [
@@ -30,9 +34,9 @@ reduce-lt r h = elim (below_two (r / 1024) (omega arith)) [
       rw e small
   | inr o ↦
       let w : r ≡ 1 * 1024 + (r - 1024) = omega arith in
-      let block = xor_block 10 1 1 (r - 1024) 0x369 (omega arith) (lit< tt) in
-      let e : reduce r ≡ bit_xor (r - 1024) 0x369 = ap (λ (q : ℕ). bit_xor r (q * generator)) o ∙ ap (λ (x : ℕ). bit_xor x generator) w ∙ block ∙ zero-add (bit_xor (r - 1024) 0x369) in
-      let b : bit_xor (r - 1024) 0x369 < 1024 = xor_lt 10 (r - 1024) 0x369 (omega arith) (lit< tt) in
+      let block = xor_block 10 1 1 (r - 1024) low_generator (omega arith) (lit< tt) in
+      let e : reduce r ≡ bit_xor (r - 1024) low_generator = ap (λ (q : ℕ). bit_xor r (q * generator)) o ∙ ap (λ (x : ℕ). bit_xor x generator) w ∙ block ∙ zero-add (bit_xor (r - 1024) low_generator) in
+      let b : bit_xor (r - 1024) low_generator < 1024 = xor_lt 10 (r - 1024) low_generator (omega arith) (lit< tt) in
       rw e b
 ]
 

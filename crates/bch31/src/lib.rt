@@ -13,3 +13,6 @@ pub mod check;
 pub mod laws;
 
 pub use check::check_bits;
+
+#[cfg(test)]
+mod tests;

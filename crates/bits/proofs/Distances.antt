@@ -21,9 +21,11 @@ bit_value-xor p q hp hq = elim (below_two p hp) [
   | inr p1 ↦ elim (below_two q hq) [ inl q0 ↦ rw (p1, q0) | inr q1 ↦ rw (p1, q1) ]
 ]
 
+-- 0 has no ones
 pub ones-zero : ones 0 ≡ 0
 ones-zero = ones-ones 0
 
+-- 1 has one
 pub ones-one : ones 1 ≡ 1
 ones-one = ones-ones 1
 

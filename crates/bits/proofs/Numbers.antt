@@ -15,6 +15,7 @@ below_two p h = elim (eq-zero-or-pos p) [ inl z ↦ inl z | inr z ↦ inr (omega
 pub bit_cases : (n : ℕ) → (n % 2 ≡ 0) ⊎ (n % 2 ≡ 1)
 bit_cases n = below_two (n % 2) (omega arith)
 
+-- the value of a bit is 0 or 1
 pub bit_value-lt : (b : Bool) → bit_value b < 2
 bit_value-lt true = omega arith
 bit_value-lt false = omega arith
@@ -79,6 +80,7 @@ bits_of-number bits =
     let e : length bits ≡ 0 + length bits = omega arith in
     ap (λ (x : ℕ). bits_of x (number bits)) e ∙ bits_of-number_from 0 0 bits
 
+-- k digits after those of n make a number below (n + 1) * 2 ^ k
 pub number_from-lt : (n : ℕ) (bits : List Bool) → number_from n bits < (n + 1) * 2 ^ length bits
 number_from-lt n [] = omega arith
 number_from-lt n (b ∷ bits) =

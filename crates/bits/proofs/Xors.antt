@@ -2,12 +2,15 @@
 use Rattle.std.proofs.Common.{◌≡◌, ℕ, ◌+◌, ◌*◌, ◌/◌, ◌%◌, ◌<◌, sym, ◌∙◌, ap, bit_xor}
 use Rattle.std.specs.Int.Bits.{xor_block, xor_shr, xor_mod, xor_assoc, xor_comm, xor_self, xor_zero_l, xor_zero_r}
 
+-- the half of a xor
 pub xor_half : (a b : ℕ) → bit_xor a b / 2 ≡ bit_xor (a / 2) (b / 2)
 xor_half a b = xor_shr a b 1
 
+-- the lowest bit of a xor
 pub xor_low : (a b : ℕ) → bit_xor a b % 2 ≡ bit_xor (a % 2) (b % 2)
 xor_low a b = xor_mod a b 1
 
+-- a xor of numbers that are given by half and lowest bit
 pub xor_double : (u v s t : ℕ) → s < 2 → t < 2 → bit_xor (u * 2 + s) (v * 2 + t) ≡ bit_xor u v * 2 + bit_xor s t
 xor_double u v s t hs ht = xor_block 1 u v s t hs ht
 

@@ -1,2 +1,4 @@
+pub mod Carried
 pub mod Fields
-mod Rows
+pub mod Known
+pub mod Runs

@@ -1,3 +1,4 @@
 pub mod Capcodes
 pub mod Functions
+pub mod Runs
 pub mod Words

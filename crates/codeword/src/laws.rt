@@ -1,0 +1,9 @@
+//! Laws of the words.
+
+ghost use Rattle.codeword.specs.Runs.{AddressesAreNotIdle, MessagesAreNotIdle};
+
+/// No address word of a usable capcode and no message word is the idle word or the sync word.
+pub fn runs_are_not_idle()
+    ensures addresses { AddressesAreNotIdle }
+    ensures messages { MessagesAreNotIdle }
+{}
