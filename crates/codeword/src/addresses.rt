@@ -1,11 +1,11 @@
 //! Capcodes: the 21-bit addresses of receivers.
 
-ghost use Rattle.std.specs.Prelude.{◌≡◌, ◌≢◌, ℕ, ◌%◌, ◌<◌, ◌/◌, SomeIff};
+ghost use Rattle.std.specs.Prelude.{◌≡◌, ◌≢◌, ℕ, ◌%◌, ◌<◌, ◌/◌, ◌^◌, SomeIff};
 ghost use Rattle.codeword.specs.Capcodes.{IsUsable, high_of, frame_of};
 
 use std::marker::Model;
 
-/// How many capcodes there are, and the numbers of usable ones are below: 2^21.
+/// Capcodes have 21 bits: their numbers are below this.
 const CAPCODES: u32 = 1 << 21;
 
 /// The high bits of the capcodes 2007664 to 2007671, whose address word with function 0 is the idle word.
@@ -66,7 +66,7 @@ impl Capcode {
     /// Its 18 high bits, which its address words carry.
     pub fn high(self) -> u32
         ensures value { result ≡ high_of self }
-        ensures small { result < 262144 }
+        ensures small { result < 2 ^ 18 }
     {
         self.number / 8
     }
