@@ -67,11 +67,21 @@ sends_all {T} {E} from to old new bits (Err e) h = record {
   lent = same_lent from to old.lent new.lent h.lent;
 }
 
--- a page was sent, or a front of its transmission
-pub page_sends : {T E : Type 0} (page : Page) (from to : GName) (old below new : Written ℕ) (r : Result T E) → below ≡ old
-    → Puts (bits_over from below) (bits_over to new) (words_bits (transmission (slots_of_one page))) r → Sends page old new r
-page_sends page from to old below new r e h = record {
-  bits = words_bits (transmission (slots_of_one page));
-  air = (slots_of_one page, one_page page, refl);
-  sends = sends_all from to old new (words_bits (transmission (slots_of_one page))) r (subst (λ (w : Written ℕ). Puts (bits_over from w) (bits_over to new) (words_bits (transmission (slots_of_one page))) r) e h);
-}
+same_name : (from to : GName) (old new : List Held) → ◌≡◌ {A = List Held} (Lent to ∷ new) (Lent from ∷ old) → to ≡ from
+same_name from to old new e = cc
+
+-- A page was sent over a sink that was lent, or a front of its transmission. The sink comes back as it was left, where the reference
+-- is still the one that was lent.
+pub page_sends : {Out T E : Type 0} (state : Out → Written ℕ) (page : Page) (name from to : GName) (old below left final : Out) (r : Result T E) → below ≡ old
+    → from ≡ name → (name ≡ to → final ≡ left) → Puts (bits_over from (state below)) (bits_over to (state left)) (words_bits (transmission (slots_of_one page))) r
+    → Sends page (state old) (state final) r
+page_sends state page name from to old below left final r e n back h =
+    let bits = words_bits (transmission (slots_of_one page)) in
+    let same : to ≡ from = same_name from to (state below).lent (state left).lent h.lent in
+    let came : final ≡ left = back (sym n ∙ sym same) in
+    let sent : SendsAll (state below) (state left) bits r = sends_all from to (state below) (state left) bits r h in
+    record {
+      bits = bits;
+      air = (slots_of_one page, one_page page, refl);
+      sends = subst (λ (o : _). SendsAll (state o) (state final) bits r) e (subst (λ (o : _). SendsAll (state below) (state o) bits r) (sym came) sent);
+    }
