@@ -1,0 +1,33 @@
+-- Batches one after another.
+use Rattle.std.proofs.Common.{◌≡◌, ℕ, zero, suc, ◌+◌, ◌*◌, ◌≤◌, List, [], ◌∷◌, ◌++◌, length, take, drop, refl, sym, ◌∙◌, ap, arith, add-one, append_assoc, append-nil, length-append}
+use Rattle.std.proofs.lemmas.List.{drop-drop, length-take-le, length-drop}
+use Rattle.codeword.specs.declared.words.TheConstants.{SYNC}
+use Rattle.air.specs.Air.{batches}
+
+-- the last of some batches, counted from 0
+pub batches-last : (k : ℕ) (slots : List ℕ) → batches (suc k) slots ≡ batches k slots ++ SYNC ∷ take 16 (drop (16 * k) slots)
+unfolding batches
+batches-last zero slots = ap (λ words. SYNC ∷ words) (append-nil (take 16 slots))
+batches-last (suc k) slots =
+    let e : 16 + 16 * k ≡ 16 * suc k = omega arith in
+    ap (λ words. SYNC ∷ (take 16 slots ++ words))
+    (batches-last k (drop 16 slots)
+    ∙ ap (λ rest. batches k (drop 16 slots) ++ SYNC ∷ take 16 rest) (drop-drop (16 * k) 16 slots ∙ ap (λ d. drop d slots) e))
+    ∙ ap (λ words. SYNC ∷ words) (sym (append_assoc (take 16 slots) (batches k (drop 16 slots)) (SYNC ∷ take 16 (drop (16 * suc k) slots))))
+
+-- one batch more
+pub batches-more : (k : ℕ) (slots : List ℕ) → batches (k + 1) slots ≡ batches k slots ++ SYNC ∷ take 16 (drop (16 * k) slots)
+batches-more k slots = ap (λ n. batches n slots) (add-one k) ∙ batches-last k slots
+
+-- a batch has 17 words
+pub length-batches : (n : ℕ) (slots : List ℕ) → 16 * n ≤ length slots → length (batches n slots) ≡ 17 * n
+unfolding batches
+length-batches zero slots l = refl
+length-batches (suc n) slots l =
+    omega (
+      arith,
+      l,
+      length-append (take 16 slots) (batches n (drop 16 slots)),
+      length-take-le 16 slots (omega (arith, l)),
+      length-batches n (drop 16 slots) (omega (arith, l, length-drop 16 slots)),
+    )

@@ -1,0 +1,100 @@
+-- The groups of a text by their bits.
+use Rattle.std.proofs.Common.{◌≡◌, ℕ, zero, suc, ◌+◌, ◌-◌, ◌*◌, ◌/◌, ◌%◌, ◌^◌, ◌<◌, ◌≤◌, ◌⊎◌, inl, inr, Bool, false, ◌==◌, List, [], ◌∷◌, ◌++◌, length, map, take, drop, replicate, get_or, refl, sym, ◌∙◌, ap, ap₂, arith, add-one, length-append, length-drop}
+use Rattle.std.proofs.Math.Nat.{pow-suc, add-div_right, add-mod_right, div-div-eq-div-mul, div-eq_of_lt, mod-eq_of_lt, mul_comm}
+use Rattle.std.proofs.Math.Pow.{pow_mono}
+use Rattle.std.proofs.lemmas.List.{length-take, drop-drop, get_or-drop, get_or_append_left, get_or-append_right, get_or-replicate, take_more}
+use Rattle.bits.specs.Bits.{rising_bits_of, bit_value, number}
+use Rattle.bits.proofs.Lengths.{length-rising_bits_of}
+use Rattle.bits.proofs.Numbers.{number-lt, number-push}
+use Rattle.page_text.specs.Groups.{pieces, code_bits, group_count, groups_of}
+
+-- bit i of a number, the least significant first
+abbrev pub bit_at : ℕ → ℕ → Bool
+bit_at n i = n / 2 ^ i % 2 == 1
+
+-- a bit among the lowest of a number
+pub get_or-rising_bits_of : (w n i : ℕ) → i < w → get_or (rising_bits_of w n) i false ≡ bit_at n i
+unfolding rising_bits_of
+get_or-rising_bits_of zero n i l = absurd (omega (arith, l))
+get_or-rising_bits_of (suc w) n zero l = let e : n / 2 ^ 0 ≡ n = omega arith in ap (λ m. m % 2 == 1) (sym e)
+get_or-rising_bits_of (suc w) n (suc i) l =
+    let e : n / 2 / 2 ^ i ≡ n / 2 ^ suc i = div-div-eq-div-mul n 2 (2 ^ i) ∙ ap (λ m. n / m) (mul_comm 2 (2 ^ i) ∙ sym (pow-suc 2 i)) in
+    get_or-rising_bits_of w (n / 2) i (omega (arith, l)) ∙ ap (λ m. m % 2 == 1) e
+
+-- each code has w bits
+pub length-code_bits : (w : ℕ) (codes : List ℕ) → length (code_bits w codes) ≡ length codes * w
+length-code_bits w [] = omega arith
+length-code_bits w (c ∷ codes) =
+    length-append (rising_bits_of w c) (code_bits w codes) ∙ omega (arith, length-rising_bits_of w c, length-code_bits w codes)
+
+-- a bit of codes run together is a bit of one of them
+pub get_or-code_bits : (w : ℕ) (codes : List ℕ) (i : ℕ) → 0 < w → i < length codes * w
+    → get_or (code_bits w codes) i false ≡ bit_at (get_or codes (i / w) 0) (i % w)
+get_or-code_bits w [] i p l = absurd (omega (arith, l))
+get_or-code_bits w (c ∷ codes) i p l = elim (split i w) [ inl h ↦ here h | inr h ↦ there h (get_or-code_bits w codes (i - w) p (omega (arith, l, h))) ]
+  where
+    split : (i w : ℕ) → (i < w) ⊎ (w ≤ i)
+    split i w = grind arith
+
+    long : length (rising_bits_of w c) ≡ w
+    long = length-rising_bits_of w c
+
+    here : i < w → get_or (rising_bits_of w c ++ code_bits w codes) i false ≡ bit_at (get_or (c ∷ codes) (i / w) 0) (i % w)
+    here h =
+        get_or_append_left (rising_bits_of w c) (code_bits w codes) false i (omega (arith, h, long)) ∙ get_or-rising_bits_of w c i h
+        ∙ ap₂ (λ a b. bit_at (get_or (c ∷ codes) a 0) b) (sym (div-eq_of_lt h)) (sym (mod-eq_of_lt h))
+
+    there : w ≤ i → get_or (code_bits w codes) (i - w) false ≡ bit_at (get_or codes ((i - w) / w) 0) ((i - w) % w)
+        → get_or (rising_bits_of w c ++ code_bits w codes) i false ≡ bit_at (get_or (c ∷ codes) (i / w) 0) (i % w)
+    there h rest =
+        let back : i - w + w ≡ i = omega (arith, h) in
+        let quotient : i / w ≡ suc ((i - w) / w) = ap (λ n. n / w) (sym back) ∙ add-div_right (i - w) p ∙ add-one ((i - w) / w) in
+        let remains : i % w ≡ (i - w) % w = ap (λ n. n % w) (sym back) ∙ add-mod_right (i - w) w in
+        get_or-append_right (rising_bits_of w c) (code_bits w codes) w i false long h ∙ rest
+        ∙ ap₂ (λ a b. bit_at (get_or (c ∷ codes) a 0) b) (sym quotient) (sym remains)
+
+-- how many pieces there are
+pub length-pieces : (k n : ℕ) (bits : List Bool) → length (map number (pieces k n bits)) ≡ n
+length-pieces k zero bits = refl
+length-pieces k (suc n) bits = ap suc (length-pieces k n (drop k bits))
+
+-- the number of one piece
+pub get_or-pieces : (w n k : ℕ) (bits : List Bool) → k < n
+    → get_or (map number (pieces w n bits)) k 0 ≡ number (take w (drop (w * k) bits))
+get_or-pieces w zero k bits l = absurd (omega (arith, l))
+get_or-pieces w (suc n) zero bits l = let e : 0 ≡ w * zero = omega arith in ap (λ d. number (take w (drop d bits))) e
+get_or-pieces w (suc n) (suc k) bits l =
+    let e : w + w * k ≡ w * suc k = omega arith in
+    get_or-pieces w n k (drop w bits) (omega (arith, l)) ∙ ap (λ t. number (take w t)) (drop-drop (w * k) w bits ∙ ap (λ d. drop d bits) e)
+
+-- how many groups a text has
+pub length-groups_of : (w fill : ℕ) (codes : List ℕ) → length (groups_of w fill codes) ≡ group_count w (length codes)
+unfolding groups_of
+length-groups_of w fill codes = length-pieces 20 (group_count w (length codes)) (code_bits w (codes ++ replicate 20 fill))
+
+-- one group
+pub get_or-groups_of : (w fill : ℕ) (codes : List ℕ) (k : ℕ) → k < group_count w (length codes)
+    → get_or (groups_of w fill codes) k 0 ≡ number (take 20 (drop (20 * k) (code_bits w (codes ++ replicate 20 fill))))
+unfolding groups_of
+get_or-groups_of w fill codes k l = get_or-pieces 20 (group_count w (length codes)) k (code_bits w (codes ++ replicate 20 fill)) l
+
+-- the first j bits behind a place make a number of j bits
+pub number-take-lt : (j : ℕ) (bits : List Bool) → number (take j bits) < 2 ^ j
+number-take-lt j bits =
+    let small = number-lt (take j bits) in
+    let few : length (take j bits) ≤ j = omega (arith, length-take j bits) in
+    let more : 2 ^ length (take j bits) ≤ 2 ^ j = pow_mono few in
+    omega (arith, small, more)
+
+-- a group has 20 bits
+pub groups_of-lt : (w fill : ℕ) (codes : List ℕ) (k : ℕ) → k < group_count w (length codes) → get_or (groups_of w fill codes) k 0 < 2 ^ 20
+groups_of-lt w fill codes k l =
+    rw (get_or-groups_of w fill codes k l) (number-take-lt 20 (drop (20 * k) (code_bits w (codes ++ replicate 20 fill))))
+
+-- one bit more
+pub number-take-more : (bits : List Bool) (from j : ℕ) → from + j < length bits
+    → number (take (j + 1) (drop from bits)) ≡ number (take j (drop from bits)) * 2 + bit_value (get_or bits (from + j) false)
+number-take-more bits from j l =
+    ap number (take_more (drop from bits) j false (omega (arith, l, length-drop from bits)))
+    ∙ number-push (take j (drop from bits)) (get_or (drop from bits) j false)
+    ∙ ap (λ b. number (take j (drop from bits)) * 2 + bit_value b) (get_or-drop from bits j false)
