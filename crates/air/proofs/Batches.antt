@@ -1,8 +1,12 @@
 -- Batches one after another.
-use Rattle.std.proofs.Common.{◌≡◌, ℕ, zero, suc, ◌+◌, ◌*◌, ◌≤◌, List, [], ◌∷◌, ◌++◌, length, take, drop, refl, sym, ◌∙◌, ap, arith, add-one, append_assoc, append-nil, length-append}
+use Rattle.std.proofs.Common.{◌≡◌, ℕ, zero, suc, ◌+◌, ◌*◌, ◌/◌, ◌≤◌, List, ◌∷◌, ◌++◌, length, take, drop, refl, sym, ◌∙◌, ap, arith, add-one, append_assoc, append-nil, length-append}
 use Rattle.std.proofs.lemmas.List.{drop-drop, length-take-le, length-drop}
 use Rattle.codeword.specs.declared.words.TheConstants.{SYNC}
-use Rattle.air.specs.Air.{batches}
+use Rattle.page_text.specs.Page.{Page}
+use Rattle.scheduler.specs.Slots.{frame, run}
+use Rattle.scheduler.specs.OnePage.{batches_of_one, slots_of_one}
+use Rattle.scheduler.proofs.OnePage.{length-slots_of_one}
+use Rattle.air.specs.Air.{batches, preamble, transmission}
 
 -- the last of some batches, counted from 0
 pub batches-last : (k : ℕ) (slots : List ℕ) → batches (suc k) slots ≡ batches k slots ++ SYNC ∷ take 16 (drop (16 * k) slots)
@@ -31,3 +35,12 @@ length-batches (suc n) slots l =
       length-take-le 16 slots (omega (arith, l)),
       length-batches n (drop 16 slots) (omega (arith, l, length-drop 16 slots)),
     )
+
+-- the words of a transmission of one page
+pub transmission-one_page : (page : Page)
+    → transmission (slots_of_one page) ≡ preamble ++ batches (batches_of_one (frame page) (length (run page))) (slots_of_one page)
+transmission-one_page page =
+    ap (λ n. preamble ++ batches n (slots_of_one page)) (whole (batches_of_one (frame page) (length (run page))) (length-slots_of_one page))
+  where
+    whole : (n : ℕ) {l : ℕ} → l ≡ 16 * n → l / 16 ≡ n
+    whole n e = omega (arith, e)

@@ -2,10 +2,10 @@
 use Rattle.std.proofs.Common.{◌≡◌, ℕ, zero, suc, ◌+◌, ◌-◌, ◌*◌, ◌/◌, ◌%◌, ◌^◌, ◌<◌, ◌≤◌, ◌⊎◌, inl, inr, Bool, false, ◌==◌, List, [], ◌∷◌, ◌++◌, length, map, take, drop, replicate, get_or, refl, sym, ◌∙◌, ap, ap₂, arith, add-one, length-append, length-drop}
 use Rattle.std.proofs.Math.Nat.{pow-suc, add-div_right, add-mod_right, div-div-eq-div-mul, div-eq_of_lt, mod-eq_of_lt, mul_comm}
 use Rattle.std.proofs.Math.Pow.{pow_mono}
-use Rattle.std.proofs.lemmas.List.{length-take, drop-drop, get_or-drop, get_or_append_left, get_or-append_right, get_or-replicate, take_more}
+use Rattle.std.proofs.lemmas.List.{length-take, drop-drop, get_or-drop, get_or_append_left, get_or-append_right, get_or-replicate, length-replicate, take_more}
 use Rattle.bits.specs.Bits.{rising_bits_of, bit_value, number}
 use Rattle.bits.proofs.Lengths.{length-rising_bits_of}
-use Rattle.bits.proofs.Numbers.{number-lt, number-push}
+use Rattle.bits.proofs.Numbers.{bit_value-eqb, number-lt, number-push}
 use Rattle.page_text.specs.Groups.{pieces, code_bits, group_count, groups_of}
 
 -- bit i of a number, the least significant first
@@ -53,6 +53,33 @@ get_or-code_bits w (c ∷ codes) i p l = elim (split i w) [ inl h ↦ here h | i
         get_or-append_right (rising_bits_of w c) (code_bits w codes) w i false long h ∙ rest
         ∙ ap₂ (λ a b. bit_at (get_or (c ∷ codes) a 0) b) (sym quotient) (sym remains)
 
+-- how many bits there are with the fill
+pub length-filled_bits : (w fill : ℕ) (codes : List ℕ) → length (code_bits w (codes ++ replicate 20 fill)) ≡ (length codes + 20) * w
+length-filled_bits w fill codes =
+    length-code_bits w (codes ++ replicate 20 fill)
+    ∙ ap (λ n. n * w) (length-append codes (replicate 20 fill) ∙ ap (λ n. length codes + n) (length-replicate 20 fill))
+
+-- behind the codes stands the fill
+pub get_or-filled : (codes : List ℕ) (fill i : ℕ) → i < length codes + 20 → get_or (codes ++ replicate 20 fill) i 0 ≡ get_or codes i fill
+get_or-filled [] fill i l = get_or-replicate 20 i fill 0 (omega (arith, l))
+get_or-filled (c ∷ codes) fill zero l = refl
+get_or-filled (c ∷ codes) fill (suc i) l = get_or-filled codes fill i (omega (arith, l))
+
+-- a bit of codes and the fill, as a number
+pub bit_value-filled_bits : (w fill : ℕ) (codes : List ℕ) (i : ℕ) → 0 < w → i < (length codes + 20) * w
+    → bit_value (get_or (code_bits w (codes ++ replicate 20 fill)) i false) ≡ get_or codes (i / w) fill / 2 ^ (i % w) % 2
+bit_value-filled_bits w fill codes i p l =
+    let size : length (codes ++ replicate 20 fill) ≡ length codes + 20 =
+    length-append codes (replicate 20 fill) ∙ ap (λ n. length codes + n) (length-replicate 20 fill) in
+    let within : i < length (codes ++ replicate 20 fill) * w = rw size l in
+    ap bit_value
+    (get_or-code_bits w (codes ++ replicate 20 fill) i p within
+    ∙ ap (λ c. bit_at c (i % w)) (get_or-filled codes fill (i / w) (quotient i (length codes + 20) w p l)))
+    ∙ bit_value-eqb (get_or codes (i / w) fill / 2 ^ (i % w) % 2) (omega arith)
+  where
+    quotient : (i n w : ℕ) → 0 < w → i < n * w → i / w < n
+    quotient i n w p l = grind arith
+
 -- how many pieces there are
 pub length-pieces : (k n : ℕ) (bits : List Bool) → length (map number (pieces k n bits)) ≡ n
 length-pieces k zero bits = refl
@@ -78,18 +105,19 @@ pub get_or-groups_of : (w fill : ℕ) (codes : List ℕ) (k : ℕ) → k < group
 unfolding groups_of
 get_or-groups_of w fill codes k l = get_or-pieces 20 (group_count w (length codes)) k (code_bits w (codes ++ replicate 20 fill)) l
 
--- the first j bits behind a place make a number of j bits
-pub number-take-lt : (j : ℕ) (bits : List Bool) → number (take j bits) < 2 ^ j
-number-take-lt j bits =
+-- at most k bits make a number below 2 ^ k
+pub number-take-lt : (n j k : ℕ) (bits : List Bool) → n ≡ number (take j bits) → j ≤ k → n < 2 ^ k
+number-take-lt n j k bits e l =
     let small = number-lt (take j bits) in
-    let few : length (take j bits) ≤ j = omega (arith, length-take j bits) in
-    let more : 2 ^ length (take j bits) ≤ 2 ^ j = pow_mono few in
-    omega (arith, small, more)
+    let few : length (take j bits) ≤ k = omega (arith, length-take j bits, l) in
+    let more : 2 ^ length (take j bits) ≤ 2 ^ k = pow_mono few in
+    omega (arith, e, small, more)
 
 -- a group has 20 bits
 pub groups_of-lt : (w fill : ℕ) (codes : List ℕ) (k : ℕ) → k < group_count w (length codes) → get_or (groups_of w fill codes) k 0 < 2 ^ 20
 groups_of-lt w fill codes k l =
-    rw (get_or-groups_of w fill codes k l) (number-take-lt 20 (drop (20 * k) (code_bits w (codes ++ replicate 20 fill))))
+    let bits : List Bool = drop (20 * k) (code_bits w (codes ++ replicate 20 fill)) in
+    number-take-lt (get_or (groups_of w fill codes) k 0) 20 20 bits (get_or-groups_of w fill codes k l) (omega arith)
 
 -- one bit more
 pub number-take-more : (bits : List Bool) (from j : ℕ) → from + j < length bits

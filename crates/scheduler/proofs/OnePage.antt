@@ -1,6 +1,6 @@
 -- The schedule of one page.
-use Rattle.std.proofs.Common.{◌≡◌, ℕ, zero, suc, ◌+◌, ◌-◌, ◌*◌, ◌%◌, ◌≤◌, ◌<◌, ◌==◌, Bool, true, false, List, [], ◌∷◌, ◌++◌, length, replicate, refl, sym, ◌∙◌, ap, subst, arith, eq-eqb, length-append, inl, inr, add-zero, zero-add}
-use Rattle.std.proofs.lemmas.List.{length-replicate}
+use Rattle.std.proofs.Common.{◌≡◌, ℕ, zero, suc, ◌+◌, ◌-◌, ◌*◌, ◌%◌, ◌≤◌, ◌<◌, ◌==◌, Bool, true, false, List, [], ◌∷◌, ◌++◌, length, replicate, get_or, refl, sym, ◌∙◌, ap, subst, arith, eq-eqb, length-append, inl, inr, add-zero, zero-add}
+use Rattle.std.proofs.lemmas.List.{length-replicate, get_or-append-add, get_or-append_right, get_or_append_left, get_or_default}
 use Rattle.std.proofs.lemmas.Bool.Decides.{eqb_tells}
 use Rattle.codeword.specs.declared.words.TheConstants.{IDLE}
 use Rattle.page_text.specs.Page.{Page}
@@ -83,3 +83,30 @@ length-slots_of_one page = whole (2 * frame page) (run page) (batches_of_one (fr
           length-replicate k IDLE,
           length-replicate m IDLE,
         )
+
+-- a word behind idle words
+after : (n : ℕ) (rest : List ℕ) (k : ℕ) → get_or (replicate n IDLE ++ rest) (n + k) IDLE ≡ get_or rest k IDLE
+after n rest k =
+    ap (λ m. get_or (replicate n IDLE ++ rest) (m + k) IDLE) (sym (length-replicate n IDLE)) ∙ get_or-append-add (replicate n IDLE) rest k IDLE
+
+-- in the run's places are its words
+pub slots_of_one-within : (page : Page) (k : ℕ) → k < length (run page) → get_or (slots_of_one page) (2 * frame page + k) IDLE ≡ get_or (run page) k 0
+slots_of_one-within page k l = within (2 * frame page) (run page) _ k l
+  where
+    within : (n : ℕ) (words rest : List ℕ) (k : ℕ) → k < length words → get_or (replicate n IDLE ++ (words ++ rest)) (n + k) IDLE ≡ get_or words k 0
+    within n words rest k l =
+        after n (words ++ rest) k ∙ get_or_append_left words rest IDLE k l ∙ get_or_default words k IDLE 0 l
+
+-- behind them is the idle word
+pub slots_of_one-behind : (page : Page) (k : ℕ) → length (run page) ≤ k → get_or (slots_of_one page) (2 * frame page + k) IDLE ≡ IDLE
+slots_of_one-behind page k l = behind (2 * frame page) (run page) _ k l
+  where
+    behind : (n : ℕ) (words : List ℕ) (m k : ℕ) → length words ≤ k → get_or (replicate n IDLE ++ (words ++ replicate m IDLE)) (n + k) IDLE ≡ IDLE
+    behind n words m k l =
+        after n (words ++ replicate m IDLE) k ∙ get_or-append_right words (replicate m IDLE) (length words) k IDLE refl l
+        ∙ idle m (k - length words)
+      where
+        idle : (m k : ℕ) → get_or (replicate m IDLE) k IDLE ≡ IDLE
+        idle zero k = refl
+        idle (suc m) zero = refl
+        idle (suc m) (suc k) = idle m k

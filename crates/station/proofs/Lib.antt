@@ -1,2 +1,3 @@
+pub mod AlphaPage
 pub mod CommandLines
 pub mod PlainBlocks

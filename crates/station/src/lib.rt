@@ -3,3 +3,5 @@
 
 mod blocks;
 mod commands;
+mod groups;
+mod slots;
