@@ -1,6 +1,6 @@
 -- The schedule of one page.
 use Rattle.std.proofs.Common.{◌≡◌, ℕ, zero, suc, ◌+◌, ◌-◌, ◌*◌, ◌%◌, ◌≤◌, ◌<◌, ◌==◌, Bool, true, false, List, [], ◌∷◌, ◌++◌, length, replicate, get_or, refl, sym, ◌∙◌, ap, subst, arith, eq-eqb, length-append, inl, inr, add-zero, zero-add}
-use Rattle.std.proofs.lemmas.List.{length-replicate, get_or-append-add, get_or-append_right, get_or-replicate, get_or_append_left, get_or_default}
+use Rattle.std.proofs.lemmas.List.{length-replicate, get_or-append-add, get_or-append_right, get_or_append_left, get_or_default}
 use Rattle.std.proofs.lemmas.Bool.Decides.{eqb_tells}
 use Rattle.codeword.specs.declared.words.TheConstants.{IDLE}
 use Rattle.page_text.specs.Page.{Page}
@@ -88,14 +88,6 @@ length-slots_of_one page = whole (2 * frame page) (run page) (batches_of_one (fr
 after : (n : ℕ) (rest : List ℕ) (k : ℕ) → get_or (replicate n IDLE ++ rest) (n + k) IDLE ≡ get_or rest k IDLE
 after n rest k =
     ap (λ m. get_or (replicate n IDLE ++ rest) (m + k) IDLE) (sym (length-replicate n IDLE)) ∙ get_or-append-add (replicate n IDLE) rest k IDLE
-
--- before the run's places is the idle word
-pub slots_of_one-before : (page : Page) (place : ℕ) → place < 2 * frame page → get_or (slots_of_one page) place IDLE ≡ IDLE
-slots_of_one-before page place l = before (2 * frame page) _ place l
-  where
-    before : (n : ℕ) (rest : List ℕ) (place : ℕ) → place < n → get_or (replicate n IDLE ++ rest) place IDLE ≡ IDLE
-    before n rest place l =
-        get_or_append_left (replicate n IDLE) rest IDLE place (omega (arith, l, length-replicate n IDLE)) ∙ get_or-replicate n place IDLE IDLE l
 
 -- in the run's places are its words
 pub slots_of_one-within : (page : Page) (k : ℕ) → k < length (run page) → get_or (slots_of_one page) (2 * frame page + k) IDLE ≡ get_or (run page) k 0

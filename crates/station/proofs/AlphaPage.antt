@@ -1,5 +1,5 @@
 -- The run of an alphanumeric page.
-use Rattle.std.proofs.Common.{◌≡◌, ℕ, suc, ◌+◌, ◌<◌, List, length, get_or, refl, ◌∙◌, ap, arith, add-one}
+use Rattle.std.proofs.Common.{◌≡◌, ℕ, suc, ◌+◌, ◌<◌, List, length, get_or, refl, arith}
 use Rattle.std.proofs.lemmas.List.{length-map, get_or-map}
 use Rattle.codeword.specs.declared.functions.Function.TheVariants.{Alpha}
 use Rattle.codeword.specs.Words.{address_of, message_of}

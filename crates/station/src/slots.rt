@@ -87,17 +87,17 @@ mod tests {
     use super::*;
 
     /// The batch whose slots from `start` on hold these words, and whose other slots are idle.
-    fn batch_with(start: usize, words: &[u32]) -> [u32; 17]
+    fn batch_with(start: usize, words: &[u32]) -> [u32; BATCH_WORDS]
         requires { start + length words.now ≤ 16 }
     {
-        let mut batch = [0x7A89_C197; 17];
+        let mut batch = [0x7A89_C197; BATCH_WORDS];
         batch[0] = 0x7CD2_15D8;
         batch[start + 1..start + 1 + words.len()].copy_from_slice(words);
         batch
     }
 
     /// Whether the transmission of this page has these batches, and no others.
-    fn has_batches(capcode: u32, text: &[u8], batches: &[[u32; 17]]) -> bool
+    fn has_batches(capcode: u32, text: &[u8], batches: &[[u32; BATCH_WORDS]]) -> bool
         requires { length text.now ≤ 400 }
     {
         let Some(capcode) = Capcode::of(capcode) else {

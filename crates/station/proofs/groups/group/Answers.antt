@@ -1,4 +1,4 @@
-use Rattle.std.proofs.Common.{◌≡◌, ℕ, ◌+◌, ◌*◌, ◌<◌, ◌++◌, Bool, List, drop, replicate, take, subst, sym, ap₂, ◌∙◌, arith}
+use Rattle.std.proofs.Common.{◌≡◌, ◌+◌, ◌*◌, ◌++◌, Bool, List, drop, replicate, take, subst, sym, ap₂, ◌∙◌, arith}
 use Rattle.bits.specs.Bits.{number}
 use Rattle.bits.proofs.Numbers.{bit_value-lt}
 use Rattle.page_text.specs.Groups.{code_bits}

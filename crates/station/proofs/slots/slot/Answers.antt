@@ -3,7 +3,7 @@ use Rattle.codeword.specs.declared.words.TheConstants.{IDLE}
 use Rattle.page_text.specs.Page.{Page}
 use Rattle.scheduler.specs.OnePage.{slots_of_one}
 use Rattle.scheduler.specs.Slots.{frame, run}
-use Rattle.scheduler.proofs.OnePage.{slots_of_one-before, slots_of_one-behind, slots_of_one-within}
+use Rattle.scheduler.proofs.OnePage.{slots_of_one-behind, slots_of_one-within}
 use Rattle.station.specs.AlphaPage.{alpha_page}
 use Rattle.station.proofs.AlphaPage.{length-run}
 use Rattle.station.proofs.slots.slot.Goals as goal
