@@ -3,12 +3,9 @@ use Rattle.std.proofs.Common.{◌≡◌, ℕ, ◌+◌, ◌-◌, ◌<◌, ◌≤�
 use Rattle.std.proofs.lemmas.List.{length-map, length-take-le}
 use Rattle.std.proofs.lemmas.Bool.{cases_lt}
 use Rattle.std.specs.List.{All}
-use Rattle.codeword.specs.Capcodes.{IsUsable}
 use Rattle.page_text.specs.Fits.{FitsAlpha, IsAlpha}
-use Rattle.page_text.specs.Page.{IsAcceptable}
 use Rattle.tap_block.specs.Chars.{characters, cr, etx, stx}
 use Rattle.wires.specs.Left.{Left}
-use Rattle.station.specs.AlphaPage.{alpha_page}
 use Rattle.station.specs.Input.{ReadsFront}
 use Rattle.station.specs.PlainBlock.{IsPlain, IsPlainBlock}
 use Rattle.station.specs.Rows.{ReadBlock, ReadNoBlock}
@@ -67,13 +64,10 @@ plain_alpha : (c : ℕ) → IsPlain c → IsAlpha c
 plain_alpha c h = inl h
 
 -- the text of a block fits
-pub acceptable : (capcode : ℕ) (x text : List ℕ) → IsUsable capcode → IsPlainBlock x text → IsAcceptable (alpha_page capcode text)
-acceptable capcode x text usable h =
+pub plain_fits : (x text : List ℕ) → IsPlainBlock x text → FitsAlpha text
+plain_fits x text h =
     let e = ap length h.fields.parts.form in
     record {
-      usable = usable;
-      fits = record {
-        short = omega (arith, e, h.short, length-append h.id (cr ∷ (text ++ cr ∷ [])), length-append text (cr ∷ []));
-        alphabet = λ k d lt. plain_alpha _ (h.fields.plain_second k d lt);
-      };
+      short = omega (arith, e, h.short, length-append h.id (cr ∷ (text ++ cr ∷ [])), length-append text (cr ∷ []));
+      alphabet = λ k d lt. plain_alpha _ (h.fields.plain_second k d lt);
     }

@@ -1,7 +1,8 @@
 -- What a run does, command by command and status by status.
 use Rattle.std.specs.Prelude.{◌≡◌, ℕ, Bool, List, [], ◌∷◌, Option, Some, None, IsTrue}
 use Rattle.air.specs.Air.{IsAir}
-use Rattle.page_text.specs.Page.{IsAcceptable}
+use Rattle.codeword.specs.declared.functions.Function.TheVariants.{Alpha}
+use Rattle.page_text.specs.Fits.{Fits}
 use Rattle.tap_block.specs.Chars.{characters}
 use Rattle.wires.specs.Causes.{Rose}
 use Rattle.wires.specs.Files.{Files}
@@ -43,11 +44,11 @@ pub record ReadFailed (old new : Left ℕ) : Type 0 where
   pub faults : Rose old.faults new.faults
   pub lent : new.lent ≡ old.lent
 
--- the page of a block, and the bits of its transmission
+-- the page of a block, whose text fits, and the bits of its transmission
 pub record PageSent (capcode : ℕ) (old new : Left ℕ) : Type 0 where
   pub text : List ℕ
   pub read : ReadBlock old new text
-  pub acceptable : IsAcceptable (alpha_page capcode text)
+  pub fits : Fits Alpha text
   pub bits : List Bool
   pub air : IsAir (alpha_page capcode text ∷ []) bits
 
