@@ -37,13 +37,13 @@ many old new buffer n h t le =
 pub read_no_block : {E : Type 0} (old new : Left ℕ) (buffer chars : List ℕ) (n : ℕ) → length buffer ≡ 257 → ReadsFront {E = E} old new buffer (Ok n)
     → chars ≡ characters (take n buffer) → ((text : List ℕ) → IsPlainBlock chars text → ⊥) → ReadNoBlock old new
 read_no_block old new buffer chars n size h e none = record {
-  tells = h.tells;
+  taken = take n buffer;
+  took = h.took;
+  few = omega (arith, length-take-le n buffer h.within, h.within, size);
   no_block = λ t text p. elim (cases_lt n (length buffer)) [
     | inl lt ↦ none text (subst (λ (x : List ℕ). IsPlainBlock x text) (all_read old new buffer chars n h e t lt) p)
     | inr le ↦ omega (arith, many old new buffer n h t le, length-plain (characters old.left) text p, size)
   ];
-  faults = h.took.faults;
-  lent = h.lent;
 }
 
 -- what was read is a block
@@ -53,11 +53,11 @@ read_block old new buffer chars text n size h e p =
     let l : length chars ≡ n = ap length e ∙ length-characters (take n buffer) ∙ length-take-le n buffer h.within in
     let lt : n < length buffer = omega (arith, length-plain chars text p, l, size) in
     record {
-      tells = h.tells;
+      taken = take n buffer;
+      took = h.took;
+      few = omega (arith, length-take-le n buffer h.within, h.within, size);
       block = λ t. subst (λ (x : List ℕ). IsPlainBlock x text) (sym (all_read old new buffer chars n h e t lt)) p;
       whole = λ t. h.whole t lt;
-      faults = h.took.faults;
-      lent = h.lent;
     }
 
 plain_alpha : (c : ℕ) → IsPlain c → IsAlpha c

@@ -1,16 +1,16 @@
 -- What a run does, command by command and status by status.
-use Rattle.std.specs.Prelude.{◌≡◌, ℕ, Bool, List, [], ◌∷◌, Option, Some, None, IsTrue}
+use Rattle.std.specs.Prelude.{◌≡◌, ℕ, ◌≤◌, length, Bool, List, [], ◌∷◌, Option, Some, None, IsTrue}
 use Rattle.air.specs.Air.{IsAir}
 use Rattle.codeword.specs.declared.functions.Function.TheVariants.{Alpha}
 use Rattle.page_text.specs.Fits.{Fits}
 use Rattle.tap_block.specs.Chars.{characters}
 use Rattle.wires.specs.Causes.{Rose}
 use Rattle.wires.specs.Files.{Files}
-use Rattle.wires.specs.Left.{Left}
+use Rattle.wires.specs.Left.{Left, Took}
 use Rattle.wires.specs.Line.{Line}
 use Rattle.wires.specs.Written.{Written}
 use Rattle.station.specs.declared.statuses.Status.{Status}
-use Rattle.station.specs.declared.statuses.Status.TheVariants.{Done, Usage, OutFault, InputFault, NotBlock, Memory}
+use Rattle.station.specs.declared.statuses.Status.TheVariants.{Done, Usage, OutFault, InputFault, NotBlock}
 use Rattle.station.specs.AlphaPage.{alpha_page}
 use Rattle.station.specs.Commands.{AreCommand, Command, One}
 use Rattle.station.specs.PlainBlock.{IsPlainBlock}
@@ -22,20 +22,24 @@ pub record Streams : Type 0 where
   pub input : Left ℕ
   pub out : Written ℕ
 
--- The input was read whole, and it is the block of this text. No fault of it was counted.
-pub record ReadBlock (old new : Left ℕ) (text : List ℕ) : Type 0 where
-  pub tells : new.tells ≡ old.tells
-  pub block : IsTrue old.tells → IsPlainBlock (characters old.left) text
-  pub whole : IsTrue old.tells → new.left ≡ []
-  pub faults : new.faults ≡ old.faults
-  pub lent : new.lent ≡ old.lent
+-- how many bytes of the input are read at most: one more than the longest block has
+abbrev pub most_read : ℕ
+most_read = 257
 
--- The input was read as far as it takes to see that it is no block of any text. No fault of it was counted.
+-- The input was read whole, and it is the block of this text. No read failed.
+pub record ReadBlock (old new : Left ℕ) (text : List ℕ) : Type 0 where
+  pub taken : List ℕ
+  pub took : Took old new taken
+  pub few : length taken ≤ most_read
+  pub whole : IsTrue old.tells → new.left ≡ []
+  pub block : IsTrue old.tells → IsPlainBlock (characters old.left) text
+
+-- The input was read as far as it takes to see that it is no block of any text. No read failed.
 pub record ReadNoBlock (old new : Left ℕ) : Type 0 where
-  pub tells : new.tells ≡ old.tells
+  pub taken : List ℕ
+  pub took : Took old new taken
+  pub few : length taken ≤ most_read
   pub no_block : IsTrue old.tells → (text : List ℕ) → IsPlainBlock (characters old.left) text → ⊥
-  pub faults : new.faults ≡ old.faults
-  pub lent : new.lent ≡ old.lent
 
 -- A read failed, and a fault of the input was counted, which no steady input has.
 pub record ReadFailed (old new : Left ℕ) : Type 0 where
@@ -53,14 +57,13 @@ pub record PageSent (capcode : ℕ) (old new : Left ℕ) : Type 0 where
   pub air : IsAir (alpha_page capcode text ∷ []) bits
 
 -- `one`, by its status. Done: the input is one block, and the bits of the transmission of its page were written. OutFault: it is
--- one block, and a write failed after a front of these bits. NotBlock: it is no block. InputFault: a read failed. Memory: nothing
--- was read. No other status is answered.
+-- one block, and a write failed after a front of these bits. NotBlock: it is no block. InputFault: a read failed. No other status
+-- is answered; `one` takes no memory.
 abbrev pub OneRow : ℕ → Streams → Streams → Status → Type 0
 OneRow capcode old new Done = (sent : PageSent capcode old.input new.input) × Wrote (as_bits old.out) (as_bits new.out) sent.bits
 OneRow capcode old new OutFault = (sent : PageSent capcode old.input new.input) × WroteFront (as_bits old.out) (as_bits new.out) sent.bits
 OneRow capcode old new NotBlock = ReadNoBlock old.input new.input × (new.out ≡ old.out)
 OneRow capcode old new InputFault = ReadFailed old.input new.input × (new.out ≡ old.out)
-OneRow capcode old new Memory = new ≡ old
 OneRow capcode old new other = ⊥
 
 -- what a run's command did: words that are no command's form are answered Usage, and nothing is touched

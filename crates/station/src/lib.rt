@@ -1,4 +1,18 @@
-//! The station.
+//! The commands of the program, over what it reads, writes and talks over.
+//!
+//! `run` is the top call: it reads the words of the command line, runs the command, and puts a line about a refusal or a fault. Its
+//! contract says what each status means for every object that it is handed. Today there is one command, `one`: it reads one block
+//! (docs/profile.md, "commands") and writes the transmission of its page.
+//!
+//! - `top`: `run`, and `tell`, which puts the line about a status.
+//! - `statuses`: how a run ends.
+//! - `commands`: the command lines.
+//! - `one_page`: the command `one`.
+//! - `input`: reading the front of the input.
+//! - `blocks`: the one block that `one` reads.
+//! - `groups`: the packing of an alphanumeric text into groups of 20 bits.
+//! - `slots`: the words in the slots of one page's transmission.
+//! - `sending`: writing them, a batch at a time.
 #![tactic(auto)]
 
 mod blocks;
@@ -8,9 +22,11 @@ mod input;
 pub mod one_page;
 mod sending;
 mod slots;
-mod statuses;
+pub mod statuses;
+#[cfg(test)]
+mod tests;
 pub mod top;
 
 pub use one_page::one;
 pub use statuses::Status;
-pub use top::run;
+pub use top::{run, tell};

@@ -27,8 +27,9 @@ fn act<I: Source, O: Sink>(alloc: Global, line: Option<CommandLine>, input: &mut
     }
 }
 
-/// Puts the line about a status to `err`.
-fn tell<E: Sink>(status: Status, err: &mut E) -> Status
+/// Puts the line about a status to `err`, where it has one: all that a command answers but Done and OutFault. The answer is the status, or
+/// OutFault where putting the line failed.
+pub fn tell<E: Sink>(status: Status, err: &mut E) -> Status
     ensures { Tells status (E.state err.old) (E.state err.new) result }
 {
     if matches!(status, Status::Done | Status::OutFault) {
