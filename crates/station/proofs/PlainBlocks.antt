@@ -1,5 +1,5 @@
 -- The block that `one` reads, in its parts.
-use Rattle.std.proofs.Common.{◌≡◌, ◌≢◌, ℕ, zero, suc, ◌+◌, ◌-◌, ◌%◌, ◌<◌, ◌≤◌, Bool, true, false, List, [], ◌∷◌, ◌++◌, length, take, drop, None, IsTrue, refl, sym, ◌∙◌, ap, subst, arith, append_assoc, length-append}
+use Rattle.std.proofs.Common.{◌≡◌, ℕ, suc, ◌+◌, ◌-◌, ◌<◌, ◌≤◌, List, [], ◌∷◌, ◌++◌, length, take, drop, None, refl, sym, ◌∙◌, ap, subst, arith, append_assoc, length-append}
 use Rattle.std.specs.List.{All, AllByRecursion}
 use Rattle.std.proofs.lemmas.List.{append_cancel_right}
 use Rattle.std.proofs.Math.Seq.{take-append_seam, drop-append_seam}
@@ -24,7 +24,7 @@ content_chars : (Q : ℕ → Type 0) (body first second : List ℕ) → ((c : �
 content_chars Q body first second f q h =
     subst (λ (xs : List ℕ). AllByRecursion Q xs) (sym h.parts.form)
     (all-append Q first (cr ∷ (second ++ cr ∷ [])) (all_to IsPlain Q f first h.plain_first)
-     (q, all-append Q second (cr ∷ []) (all_to IsPlain Q f second h.plain_second) (q, tt)))
+    (q, all-append Q second (cr ∷ []) (all_to IsPlain Q f second h.plain_second) (q, tt)))
 
 plain_small : (c : ℕ) → IsPlain c → c < 128
 plain_small c h = omega (arith, h.1)
@@ -47,7 +47,7 @@ pub plain_block : (x block trailer body first text : List ℕ) → x ≡ block +
 plain_block x block trailer body first text e b t l f =
     let right : trailer ≡ right_trailer body Etx = t ∙ ap (λ (z : List ℕ). written (sum_of (characters z)) ++ cr ∷ []) b ∙ ap (λ (z : List ℕ). written (sum_of z) ++ cr ∷ []) (summed body first text f) in
     let whole : x ≡ (stx ∷ body) ++ etx ∷ right_trailer body Etx =
-        e ∙ ap (λ (z : List ℕ). z ++ trailer) b ∙ ap (λ (z : List ℕ). (stx ∷ (body ++ etx ∷ [])) ++ z) right ∙ append_assoc (stx ∷ body) (etx ∷ []) (right_trailer body Etx) in
+    e ∙ ap (λ (z : List ℕ). z ++ trailer) b ∙ ap (λ (z : List ℕ). (stx ∷ (body ++ etx ∷ [])) ++ z) right ∙ append_assoc (stx ∷ body) (etx ∷ []) (right_trailer body Etx) in
     record {
       body = body;
       trailer = right_trailer body Etx;
@@ -55,7 +55,7 @@ plain_block x block trailer body first text e b t l f =
       short = l;
       right = is_right_of body Etx;
       id = first;
-      fields = f
+      fields = f;
     }
 
 -- A plain block: its last four characters are the trailer, and those before it the block.
@@ -71,10 +71,11 @@ pub record PlainForm (x text : List ℕ) : Type 0 where
 cut_at : (x block trailer : List ℕ) → x ≡ block ++ trailer → length trailer ≡ 4 → (4 ≤ length x) × (take (length x - 4) x ≡ block) × (drop (length x - 4) x ≡ trailer)
 cut_at x block trailer e four =
     let l : length x ≡ length block + 4 = ap length e ∙ length-append block trailer ∙ omega (arith, four) in
-    let n : length x - 4 ≡ length block = omega (arith, l) in
-    (omega (arith, l),
-     ap (λ (k : ℕ). take k x) n ∙ ap (take (length block)) e ∙ take-append_seam block trailer,
-     ap (λ (k : ℕ). drop k x) n ∙ ap (drop (length block)) e ∙ drop-append_seam block trailer)
+    let n : length x - 4 ≡ length block = omega (arith, l) in (
+      omega (arith, l),
+      ap (λ (k : ℕ). take k x) n ∙ ap (take (length block)) e ∙ take-append_seam block trailer,
+      ap (λ (k : ℕ). drop k x) n ∙ ap (drop (length block)) e ∙ drop-append_seam block trailer,
+    )
 
 pub plain_form : (x text : List ℕ) → IsPlainBlock x text → PlainForm x text
 plain_form x text h =
@@ -82,7 +83,7 @@ plain_form x text h =
     let right = right_is h.body h.trailer Etx h.right in
     let block : List ℕ = stx ∷ (h.body ++ etx ∷ []) in
     let e : x ≡ block ++ right_trailer h.body Etx =
-        whole.0 ∙ ap (λ (z : List ℕ). (stx ∷ h.body) ++ etx ∷ z) right ∙ sym (append_assoc (stx ∷ h.body) (etx ∷ []) (right_trailer h.body Etx)) in
+    whole.0 ∙ ap (λ (z : List ℕ). (stx ∷ h.body) ++ etx ∷ z) right ∙ sym (append_assoc (stx ∷ h.body) (etx ∷ []) (right_trailer h.body Etx)) in
     let cut = cut_at x block (right_trailer h.body Etx) e refl in
     record {
       body = h.body;
@@ -91,7 +92,7 @@ plain_form x text h =
       block_is = cut.1;
       trailer_is = cut.2 ∙ ap (λ (z : List ℕ). written (sum_of z) ++ cr ∷ []) (sym (summed h.body h.id text h.fields)) ∙ ap (λ (z : List ℕ). written (sum_of (characters z)) ++ cr ∷ []) (sym cut.1);
       short = h.short;
-      fields = h.fields
+      fields = h.fields;
     }
 
 -- the body is determined by the block

@@ -1,5 +1,5 @@
 -- A transmission that is written part by part.
-use Rattle.std.proofs.Common.{◌≡◌, ℕ, suc, ◌+◌, ◌-◌, ◌*◌, ◌/◌, ◌<◌, Bool, List, [], ◌∷◌, ◌++◌, length, take, drop, Result, Ok, Err, IsErr, refl, sym, ◌∙◌, ap, subst}
+use Rattle.std.proofs.Common.{◌≡◌, ℕ, suc, ◌+◌, ◌-◌, ◌*◌, ◌/◌, ◌<◌, Bool, List, ◌∷◌, ◌++◌, length, take, drop, Result, Ok, Err, IsErr, refl, sym, ◌∙◌, ap, subst}
 use Rattle.std.specs.Borrow.{GName}
 use Rattle.bits.specs.Bits.{words_bits}
 use Rattle.bits.proofs.Bytes.{words_bits-append}
@@ -14,7 +14,6 @@ use Rattle.wires.specs.Stacked.{bits_over}
 use Rattle.wires.specs.Written.{Puts, Written}
 use Rattle.wires.proofs.Written.{no_ok, Puts-cut, Puts_words-fails, Puts_words-then}
 use Rattle.station.specs.Sends.{batches_of, Sends, SendsAll}
-use Rattle.station.specs.Wrote.{as_bits, Wrote, WroteFront}
 
 -- one batch more was sent
 pub batch_sent : {T U E F : Type 0} (a b c : Written Bool) (k : ℕ) (slots batch : List ℕ) (x : T) (r : Result U F) → batch ≡ SYNC ∷ take 16 (drop (16 * k) slots)

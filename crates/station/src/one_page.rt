@@ -29,7 +29,12 @@ fn to_characters(bytes: &mut [u8])
 /// The answer is InputFault where a read failed, NotBlock exactly where the input isn't one block with end ETX, a body of at most
 /// 250 characters, a right trailer and two fields of printable characters, and OutFault where a write failed; else Done. Nothing
 /// is written but where the input is such a block. It takes no memory, and never answers Memory.
-pub fn one<I: Source, O: Sink>(alloc: Global, capcode: Capcode, input: &mut I, out: &mut O) -> Status
+pub fn one<I: Source, O: Sink>(
+    alloc: Global,
+    capcode: Capcode,
+    input: &mut I,
+    out: &mut O,
+) -> Status
     ensures { OneRow capcode (record { input = I.state input.old; out = O.state out.old }) (record { input = I.state input.new; out = O.state out.new }) result }
 {
     let _ = alloc;

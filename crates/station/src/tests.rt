@@ -62,7 +62,13 @@ fn one_block_becomes_one_transmission(rt: HostRuntime) -> Result<(), Fail> {
         let mut input = MemorySource::new(rt.alloc(), block, cut.max(1), &[])?;
         let mut out = MemorySink::new(rt.alloc(), 140, &[])?;
         let mut err = MemorySink::new(rt.alloc(), 0, &[])?;
-        let status = ran(rt.alloc(), &["one", capcode], &mut input, &mut out, &mut err)?;
+        let status = ran(
+            rt.alloc(),
+            &["one", capcode],
+            &mut input,
+            &mut out,
+            &mut err,
+        )?;
         assert_eq!(rt; status, Status::Done);
         assert_eq!(rt; out.bytes(), air.as_slice());
         assert_eq!(rt; err.bytes().len(), 0);
@@ -154,7 +160,10 @@ fn the_longest_body_has_250_characters(rt: HostRuntime) -> Result<(), Fail> {
         let mut input = MemorySource::new(rt.alloc(), &block, 100, &[])?;
         let mut out = MemorySink::new(rt.alloc(), 1000, &[])?;
         let mut err = MemorySink::new(rt.alloc(), 100, &[])?;
-        assert_eq!(rt; ran(rt.alloc(), &["one", "0"], &mut input, &mut out, &mut err)?, status);
+        assert_eq!(rt;
+            ran(rt.alloc(), &["one", "0"], &mut input, &mut out, &mut err)?,
+            status
+        );
         assert_eq!(rt; out.bytes().len(), size);
     }
     Ok(())
@@ -165,8 +174,24 @@ fn a_failing_object_is_named(rt: HostRuntime) -> Result<(), Fail> {
     let none: [u64; 0] = [];
     // Which take, which put on out and which put on err fails, the status, and what out and err got.
     let table: [(&[u64], &[u64], &[u64], &[u8], Status, usize, &[u8]); 6] = [
-        (&[1], &none, &none, ABC, Status::InputFault, 0, b"pocsag: input\n"),
-        (&[3], &none, &none, ABC, Status::InputFault, 0, b"pocsag: input\n"),
+        (
+            &[1],
+            &none,
+            &none,
+            ABC,
+            Status::InputFault,
+            0,
+            b"pocsag: input\n",
+        ),
+        (
+            &[3],
+            &none,
+            &none,
+            ABC,
+            Status::InputFault,
+            0,
+            b"pocsag: input\n",
+        ),
         (&[1], &none, &[1], ABC, Status::OutFault, 0, b""),
         (&none, &[1], &none, ABC, Status::OutFault, 0, b""),
         (&none, &[2], &none, ABC, Status::OutFault, 72, b""),
@@ -176,7 +201,10 @@ fn a_failing_object_is_named(rt: HostRuntime) -> Result<(), Fail> {
         let mut input = MemorySource::new(rt.alloc(), block, 5, takes)?;
         let mut out = MemorySink::new(rt.alloc(), 140, puts)?;
         let mut err = MemorySink::new(rt.alloc(), 100, lines)?;
-        assert_eq!(rt; ran(rt.alloc(), &["one", "8"], &mut input, &mut out, &mut err)?, status);
+        assert_eq!(rt;
+            ran(rt.alloc(), &["one", "8"], &mut input, &mut out, &mut err)?,
+            status
+        );
         assert_eq!(rt; out.bytes().len(), size);
         assert_eq!(rt; err.bytes(), line);
     }

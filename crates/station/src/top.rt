@@ -16,7 +16,12 @@ use wires::source::Source;
 use wires::wire::Wire;
 
 /// Runs a command.
-fn act<I: Source, O: Sink>(alloc: Global, line: Option<CommandLine>, input: &mut I, out: &mut O) -> Status
+fn act<I: Source, O: Sink>(
+    alloc: Global,
+    line: Option<CommandLine>,
+    input: &mut I,
+    out: &mut O,
+) -> Status
     ensures { Acts (meant line) (record { input = I.state input.old; out = O.state out.old }) (record { input = I.state input.new; out = O.state out.new }) result }
 {
     let Some(line) = line else {

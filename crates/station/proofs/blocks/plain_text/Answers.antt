@@ -1,6 +1,6 @@
-use Rattle.std.proofs.Common.{◌∙◌, sym, ap, ap₂, arith, ◌++◌, ◌-◌, List, ℕ, take, drop, length}
+use Rattle.std.proofs.Common.{◌∙◌, sym, ap₂, arith, ◌++◌, ◌-◌, List, ℕ, length}
 use Rattle.std.proofs.lemmas.List.{take-append-drop}
-use Rattle.station.proofs.PlainBlocks.{plain_block, not_right, no_fields, no_body, too_short}
+use Rattle.station.proofs.PlainBlocks.{plain_block, not_right}
 use Rattle.station.proofs.blocks.plain_text.Goals as goal
 use Rattle.station.proofs.blocks.plain_text.Goals.{else-body-le-LONGEST_BODY-via-then-body-le-LONGEST_BODY+else-is_right, else-body-le-LONGEST_BODY-via-else-body-le-LONGEST_BODY}
 
@@ -14,6 +14,6 @@ pub returns-else-body-le-LONGEST_BODY : goal.returns-else-body-le-LONGEST_BODY
 returns-else-body-le-LONGEST_BODY c text h =
     not_right c.args.chars.now c.split_at.result.0.now c.split_at.result.1.now c.in-Some.body.now text c.split_at.ensures.front c.split_at.ensures.back c.in-Some.ensures
     (λ short right. elim c.else-body-le-LONGEST_BODY.branch [
-      else-body-le-LONGEST_BODY-via-then-body-le-LONGEST_BODY+else-is_right w ↦ (let t = w.is_right.ensures.1 right in let f = w.if-is_right.false in cc)
-    | else-body-le-LONGEST_BODY-via-else-body-le-LONGEST_BODY w ↦ (let f = w.if-body-le-LONGEST_BODY.false in omega arith)
+      | else-body-le-LONGEST_BODY-via-then-body-le-LONGEST_BODY+else-is_right w ↦ (let t = w.is_right.ensures.1 right in let f = w.if-is_right.false in cc)
+      | else-body-le-LONGEST_BODY-via-else-body-le-LONGEST_BODY w ↦ (let f = w.if-body-le-LONGEST_BODY.false in omega arith)
     ]) h

@@ -1,4 +1,4 @@
-use Rattle.std.proofs.Common.{length, subst, ℕ, ◌<◌}
+use Rattle.std.proofs.Common.{subst, ℕ, ◌<◌}
 use Rattle.air.specs.Air.{batches}
 use Rattle.scheduler.specs.OnePage.{slots_of_one}
 use Rattle.wires.proofs.Written.{Puts-nothing}

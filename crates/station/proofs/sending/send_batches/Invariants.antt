@@ -1,4 +1,4 @@
-use Rattle.std.proofs.Common.{◌≡◌, ◌≤◌, Ok, length}
+use Rattle.std.proofs.Common.{Ok}
 use Rattle.bits.specs.Bits.{words_bits}
 use Rattle.air.specs.Air.{batches}
 use Rattle.scheduler.specs.OnePage.{slots_of_one}
