@@ -82,9 +82,9 @@ mod tests {
             assert!(rt; fields(content).is_none());
         }
         match fields(b"\rABC\r") {
-            Some((first, second)) => {
-                assert_eq!(rt; first, b"".as_slice());
-                assert_eq!(rt; second, b"ABC".as_slice());
+            Some((id, text)) => {
+                assert_eq!(rt; id, b"".as_slice());
+                assert_eq!(rt; text, b"ABC".as_slice());
             }
             None => assert!(rt; false),
         }

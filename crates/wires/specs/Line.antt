@@ -98,6 +98,7 @@ pub record Dials {T E : Type 0} (old new : Line) (result : Result T E) : Type 0 
 -- no connection but the open one changed, and which is open and which are left stays
 pub record Uses (old new : Line) : Type 0 where
   pub keeps : Keeps old new
+  pub blank : IsTrue old.tells → AllLeftAreBlank old
   pub others : (k : ℕ) → (IsTrue old.is_open → k ≢ last old) → new.connection k ≡ old.connection k
   pub opened : new.opened ≡ old.opened
   pub is_open : new.is_open ≡ old.is_open
@@ -148,6 +149,7 @@ pub record Says {T E : Type 0} (old new : Line) (piece : List ℕ) (result : Res
 -- the open connection is closed, whatever is answered, and which are left stays
 pub record HangsUp {T E : Type 0} (old new : Line) (result : Result T E) : Type 0 where
   pub keeps : Keeps old new
+  pub blank : IsTrue old.tells → AllLeftAreBlank old
   pub connections : KeepsConnections old new
   pub opened : new.opened ≡ old.opened
   pub shut : IsTrue old.tells → IsFalse new.is_open

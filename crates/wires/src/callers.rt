@@ -58,6 +58,7 @@ pub fn skip<B: BitSource>(bits: &mut B) -> Result<bool, Failed>
     ensures end { IsTrue (B.state bits.old).tells → IfOk result (λ some. IsFalse some → (B.state bits.old).left ≡ []) }
     ensures steady { IsTrue (B.state bits.old).tells → IsTrue (B.state bits.old).steady → (B.state bits.new).faults ≡ (B.state bits.old).faults }
     ensures cause { HasCause (B.state bits.old).faults (B.state bits.new).faults result }
+    ensures lent { (B.state bits.new).lent ≡ (B.state bits.old).lent }
 {
     Ok(bits.bit()?.is_some())
 }
@@ -99,6 +100,7 @@ pub fn holds_a_byte<F: Shelf>(shelf: &mut F, name: &str) -> Result<bool, Failed>
     ensures byte { IsTrue (F.state shelf.old).tells → IfOk result (λ some. IsFalse some → (F.state shelf.old).file name.now ≡ []) }
     ensures there { IsTrue (F.state shelf.old).tells → OnOk result (IsTrue ((F.state shelf.old).there name.now)) }
     ensures others { (other : List ℕ) → SameAt (F.state shelf.old) (F.state shelf.new) other }
+    ensures lent { (F.state shelf.new).lent ≡ (F.state shelf.old).lent }
 {
     let mut buffer = [0; 1];
     Ok(shelf.read(name, 0, &mut buffer)? > 0)
@@ -131,6 +133,7 @@ pub fn ring<W: Wire>(wire: &mut W, at: &str) -> Result<(), Failed>
     ensures rang { IsTrue (W.state wire.old).tells → OnOk result (((W.state wire.old).opened < (W.state wire.old).count)
         × ((W.state wire.new).opened ≡ (W.state wire.old).opened + 1) × IsFalse (W.state wire.new).is_open) }
     ensures blank { IsTrue (W.state wire.old).tells → OnOk result (((W.state wire.new).connection (W.state wire.old).opened).said ≡ []) }
+    ensures lent { (W.state wire.new).lent ≡ (W.state wire.old).lent }
 {
     wire.dial(at)?;
     wire.hang_up()

@@ -62,7 +62,7 @@ impl<'a, K: Sink> WordBytes<'a, K> {
 
     /// Writes the words of one piece by one call of the sink below.
     fn piece(&mut self, words: &[u32]) -> Result<(), Failed>
-        requires { length words.now ≤ 32 }
+        requires { length words.now ≤ WORDS_IN_A_PIECE }
         ensures { Puts (bits_over self.old.sink.ghost_name (K.state self.old.sink.now)) (bits_over self.new.sink.ghost_name (K.state self.new.sink.now)) (words_bits words.now) result }
     {
         let mut buffer = [0; PIECE_SIZE];
@@ -92,8 +92,8 @@ impl<'a, K: Sink> BitSink for WordBytes<'a, K> {
 
 /// Writes the words' bytes to the front of a buffer, each word's most significant byte first.
 fn lay_out(words: &[u32], into: &mut [u8])
-    requires { 4 * length words.now ≤ length into.old }
-    ensures { take (4 * length words.now) into.new ≡ words_bytes words.now }
+    requires { WORD_SIZE * length words.now ≤ length into.old }
+    ensures { take (WORD_SIZE * length words.now) into.new ≡ words_bytes words.now }
 {
     for k in 0..words.len() {
         let at = WORD_SIZE * k;

@@ -1,15 +1,65 @@
 //! What no clause says: each type once through its bound, at the calls that fail, and the order of bytes.
+ghost use Rattle.std.specs.Prelude.{[], drop, true};
+ghost use Rattle.wires.specs.Silent.{silent_sink};
+
 use crate::callers::{
-    Copied, answer_one, copy, holds_a_byte, ring, two_words, words_over, write_file,
+    Copied, answer_one, copy, holds_a_byte, ring, skip, two_words, words_over, write_file,
 };
 use crate::fakes::{MemorySink, MemorySource};
 use crate::nothing::{NoShelf, NoWire};
 use crate::shelf::Shelf;
 use crate::sink::{BitSink, Sink, WordBytes};
-use crate::source::Source;
+use crate::source::{BitSource, Source};
 use crate::wire::Wire;
-use crate::{Failed, Memory};
+use crate::{Failed, Memory, raise};
 use std::test::Fail;
+
+/// Three bits, of which so many are read. It never fails.
+#[derive(Drop)]
+struct ThreeBits {
+    bits: [bool; 3],
+    at: usize,
+}
+
+impl BitSource for ThreeBits {
+    ghost state = { λ s. record { tells = true; left = drop s.at s.bits; steady = true; faults = 0; lent = [] } };
+
+    fn bit(&mut self) -> Result<Option<bool>, Failed> {
+        match self.bits.get(self.at) {
+            Some(bit) => {
+                self.at += 1;
+                Ok(Some(*bit))
+            }
+            None => Ok(None),
+        }
+    }
+}
+
+/// Keeps up to four words. It tells nothing but its faults.
+#[derive(Drop)]
+struct FourWords {
+    words: [u32; 4],
+    count: usize,
+    faults: u64,
+}
+
+impl BitSink for FourWords {
+    ghost state = { λ s. silent_sink s.faults };
+
+    fn word(&mut self, w: u32) -> Result<(), Failed> {
+        match self.words.get_mut(self.count) {
+            Some(place) => {
+                *place = w;
+                self.count += 1;
+                Ok(())
+            }
+            None => {
+                raise(&mut self.faults);
+                Err(Failed)
+            }
+        }
+    }
+}
 
 #[test]
 fn a_source_gives_all_its_bytes_whatever_its_cut(rt: HostRuntime) -> Result<(), Fail> {
@@ -102,6 +152,34 @@ fn forty_words_arrive_whole_in_two_pieces(rt: HostRuntime) -> Result<(), Fail> {
     }
     assert_eq!(rt; sink.put(b""), Err(Failed), "the third call");
     Ok(())
+}
+
+#[test]
+fn words_arrive_one_by_one_up_to_one_that_fails(rt: HostRuntime) {
+    let mut sink = FourWords {
+        words: [0; 4],
+        count: 0,
+        faults: 0,
+    };
+    assert_eq!(rt; sink.words(&[0x7CD2_15D8, 1]), Ok(()));
+    assert_eq!(rt; sink.count, 2);
+    assert_eq!(rt; sink.words(&[]), Ok(()));
+    assert_eq!(rt; sink.words(&[2, 3, 4, 5]), Err(Failed));
+    assert_eq!(rt; sink.words, [0x7CD2_15D8, 1, 2, 3]);
+    assert_eq!(rt; sink.faults, 1);
+}
+
+#[test]
+fn bits_are_skipped_up_to_the_end(rt: HostRuntime) {
+    let mut bits = ThreeBits {
+        bits: [true, false, true],
+        at: 0,
+    };
+    assert_eq!(rt; skip(&mut bits), Ok(true));
+    assert_eq!(rt; bits.bit(), Ok(Some(false)));
+    assert_eq!(rt; skip(&mut bits), Ok(true));
+    assert_eq!(rt; skip(&mut bits), Ok(false));
+    assert_eq!(rt; bits.bit(), Ok(None));
 }
 
 #[test]
