@@ -23,7 +23,7 @@ abbrev pub in_frame : ℕ → Page → Bool
 in_frame f page = frame page == f
 
 -- What the slots are made of: the idle word, or the run of a page. No word of the run of a page with a usable capcode is the idle
--- word, so a list of words has one such reading.
+-- word, so a place holds the idle word exactly where its piece is idle.
 pub data Piece : Type 0 where
   Idle : Piece
   Run : Page → Piece

@@ -10,7 +10,7 @@ use Rattle.wires.specs.Left.{Left, Took}
 use Rattle.wires.specs.Line.{Line}
 use Rattle.wires.specs.Written.{Written}
 use Rattle.station.specs.declared.statuses.Status.{Status}
-use Rattle.station.specs.declared.statuses.Status.TheVariants.{Done, Usage, OutFault, InputFault, NotBlock}
+use Rattle.station.specs.declared.statuses.Status.TheVariants.{BadPages, Done, InputFault, NotBlock, OutFault, Settings, Usage}
 use Rattle.station.specs.AlphaPage.{alpha_page}
 use Rattle.station.specs.Commands.{AreCommand, Command, One}
 use Rattle.station.specs.PlainBlock.{IsPlainBlock}
@@ -71,10 +71,12 @@ abbrev pub Acts : Option Command → Streams → Streams → Status → Type 0
 Acts None old new status = (status ≡ Usage) × (new ≡ old)
 Acts (Some (One capcode)) old new status = OneRow capcode old new status
 
--- The line of a status was put to err; Done and OutFault have none. Where putting it failed, the run ends with OutFault.
+-- The line about a status was put to err, for the statuses that have one. Where putting it failed, the run ends with OutFault.
 abbrev pub Tells : Status → Written ℕ → Written ℕ → Status → Type 0
 Tells Done old new result = (result ≡ Done) × (new ≡ old)
 Tells OutFault old new result = (result ≡ OutFault) × (new ≡ old)
+Tells Settings old new result = (result ≡ Settings) × (new ≡ old)
+Tells BadPages old new result = (result ≡ BadPages) × (new ≡ old)
 Tells status old new OutFault = WroteFront old new (line_of status)
 Tells status old new result = (result ≡ status) × Wrote old new (line_of status)
 

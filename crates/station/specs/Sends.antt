@@ -11,11 +11,12 @@ use Rattle.station.specs.Wrote.{as_bits, Wrote, WroteFront}
 abbrev pub batches_of : Page → List ℕ
 batches_of page = batches (batches_of_one (frame page) (length (run page))) (slots_of_one page)
 
--- the bits of the transmission of one page, and that they were written whole, or after Failed a front of them
+-- the bits were written whole, or after Failed a front of them
 abbrev pub SendsAll : {T E : Type 0} → Written ℕ → Written ℕ → List Bool → Result T E → Type 0
 SendsAll old new bits (Ok _) = Wrote (as_bits old) (as_bits new) bits
 SendsAll old new bits (Err _) = WroteFront (as_bits old) (as_bits new) bits
 
+-- the bits of the transmission of one page were written, or after Failed a front of them
 pub record Sends {T E : Type 0} (page : Page) (old new : Written ℕ) (result : Result T E) : Type 0 where
   pub bits : List Bool
   pub air : IsAir (page ∷ []) bits

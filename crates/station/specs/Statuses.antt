@@ -20,10 +20,17 @@ code_of SomeUnsent = 13
 code_of Memory = 14
 code_of BadPages = 15
 
--- the line of a status that a command of this program answers; Done and OutFault have none
+-- the line about a status. Done and OutFault have none, and those of Settings and BadPages say what is refused.
 abbrev pub line_of : Status → List ℕ
 line_of Usage = codes "pocsag: usage\n"
+line_of FileFault = codes "pocsag: file\n"
+line_of WireFault = codes "pocsag: line\n"
 line_of InputFault = codes "pocsag: input\n"
 line_of NotBlock = codes "pocsag: not a block\n"
+line_of BadSum = codes "pocsag: wrong sum\n"
+line_of BadText = codes "pocsag: text\n"
+line_of TooLong = codes "pocsag: air too long\n"
+line_of LogonRefused = codes "pocsag: logon refused\n"
+line_of SomeUnsent = codes "pocsag: some pages unsent\n"
 line_of Memory = codes "pocsag: memory\n"
 line_of other = []

@@ -5,16 +5,8 @@ ghost use Rattle.std.specs.List.{All};
 ghost use Rattle.tap_block.specs.Chars.{characters, cr, etx, stx, sum_of, written};
 ghost use Rattle.station.specs.PlainBlock.{ArePlainFields, IsPlain, IsPlainBlock};
 
+use tap_block::control::{CR, ETX, STX};
 use tap_block::{fields, sum};
-
-/// Start of text: a block begins.
-const STX: u8 = 0x02;
-
-/// End of text: the body of a transaction's last block has ended.
-const ETX: u8 = 0x03;
-
-/// Carriage return: the trailer has ended.
-const CR: u8 = 0x0D;
 
 /// The most characters that a body may have.
 const LONGEST_BODY: usize = 250;

@@ -19,7 +19,7 @@ pub enum Status {
     OutFault,
     /// The input failed.
     InputFault,
-    /// The input is not one block of two printable fields, with a right trailer.
+    /// The input is not one block with end ETX, a body of at most 250 characters, a right trailer and two printable fields.
     NotBlock,
     /// The block's sum is wrong.
     BadSum,
@@ -63,16 +63,23 @@ impl Status {
         }
     }
 
-    /// The line about the status, for those that have one and that a command answers.
+    /// The line about the status. Done and OutFault have none. Settings and BadPages have none here: theirs say what is refused.
     pub(crate) fn line(self) -> &'static [u8]
         ensures { result.now ≡ line_of self }
     {
         match self {
+            Status::Done | Status::OutFault | Status::Settings | Status::BadPages => b"",
             Status::Usage => b"pocsag: usage\n",
+            Status::FileFault => b"pocsag: file\n",
+            Status::WireFault => b"pocsag: line\n",
             Status::InputFault => b"pocsag: input\n",
             Status::NotBlock => b"pocsag: not a block\n",
+            Status::BadSum => b"pocsag: wrong sum\n",
+            Status::BadText => b"pocsag: text\n",
+            Status::TooLong => b"pocsag: air too long\n",
+            Status::LogonRefused => b"pocsag: logon refused\n",
+            Status::SomeUnsent => b"pocsag: some pages unsent\n",
             Status::Memory => b"pocsag: memory\n",
-            _ => b"",
         }
     }
 }

@@ -115,9 +115,9 @@ fn other_input_is_no_block(rt: HostRuntime) -> Result<(), Fail> {
         b"\x02123\rABC\r\x0317;\n",
         b"\x02123\rABC\x0316>\r",
         b"\x02123\rABC\r\x1718?\r",
-        b"\x02123\rABC\r\x02123\rABC\r\x0317;\r",
+        b"\x02123\rABC\r\x02123\rABC\r\x032?3\r",
         b"\x021\rA\x1AM\r\x030?8\r",
-        b"\x02\r\r\r\x030:<\r",
+        b"\x02\r\r\r\x0302<\r",
         b"\x03\x0317;\r",
     ];
     for block in table {

@@ -32,12 +32,15 @@ fn act<I: Source, O: Sink>(
     }
 }
 
-/// Puts the line about a status to `err`, where it has one: all that a command answers but Done and OutFault. The answer is the status, or
-/// OutFault where putting the line failed.
+/// Puts the line about a status to `err`. The answer is the status, or OutFault where putting the line failed. Done and OutFault have
+/// no line; nor have Settings and BadPages here, since theirs say what is refused.
 pub fn tell<E: Sink>(status: Status, err: &mut E) -> Status
     ensures { Tells status (E.state err.old) (E.state err.new) result }
 {
-    if matches!(status, Status::Done | Status::OutFault) {
+    if matches!(
+        status,
+        Status::Done | Status::OutFault | Status::Settings | Status::BadPages
+    ) {
         return status;
     }
     match err.put(status.line()) {

@@ -5,8 +5,7 @@ ghost use Rattle.std.specs.List.{AllByRecursion};
 ghost use Rattle.tap_block.specs.Chars.{characters, sum_of, written, cr};
 ghost use Rattle.tap_block.specs.Fields.{AreParts};
 
-/// Carriage return: the end of a line, a field, a trailer.
-const CR: u8 = 0x0D;
+use crate::control::CR;
 
 /// Sums are taken modulo this number.
 const SUMS: u32 = 4096;
