@@ -67,3 +67,54 @@ impl<W: Write> Sink for OutSink<W> {
         }
     }
 }
+
+#[cfg(test)]
+mod tests {
+    use super::{InSource, OutSink};
+    use std::io;
+    use std::io::{ErrorKind, Read, Write};
+    use std::test::Fail;
+    use wires::Failed;
+    use wires::sink::Sink;
+    use wires::source::Source;
+
+    /// A stream that is broken.
+    #[derive(Drop)]
+    struct Broken;
+
+    impl Read for Broken {
+        fn read(&mut self, _into: &mut [u8]) -> io::Result<usize> {
+            Err(io::Error::from(ErrorKind::BrokenPipe))
+        }
+    }
+
+    impl Write for Broken {
+        fn write(&mut self, _buf: &[u8]) -> io::Result<usize> {
+            Err(io::Error::from(ErrorKind::BrokenPipe))
+        }
+
+        fn flush(&mut self) -> io::Result<()> {
+            Ok(())
+        }
+    }
+
+    #[test]
+    fn a_broken_stream_fails(rt: HostRuntime) {
+        let mut into = [0; 4];
+        assert_eq!(rt; InSource::over(Broken).take(&mut into), Err(Failed));
+        assert_eq!(rt; OutSink::over(Broken).put(b"ID="), Err(Failed));
+    }
+
+    #[test]
+    fn a_whole_stream_carries_its_bytes(rt: HostRuntime) -> Result<(), Fail> {
+        let mut input = InSource::over(b"ab".as_slice());
+        let mut into = [0; 4];
+        assert_eq!(rt; input.take(&mut into), Ok(2));
+        assert_eq!(rt; into, *b"ab\0\0");
+        assert_eq!(rt; input.take(&mut into), Ok(0));
+        let mut kept = Vec::new(rt.alloc());
+        assert!(rt; OutSink::over(&mut kept).put(b"ID=").is_ok());
+        assert_eq!(rt; kept.as_slice(), b"ID=".as_slice());
+        Ok(())
+    }
+}
