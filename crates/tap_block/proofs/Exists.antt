@@ -22,7 +22,7 @@ abbrev LineCut : List ℕ → Option (List ℕ × List ℕ) → Type 0
 LineCut x None = Unit {0}
 LineCut x (Some (l, next)) = (x ≡ l ++ cr ∷ next) × AllByRecursion (λ c. c ≢ cr) l
 
-abbrev TrailerCut : List ℕ → Option (List ℕ × List ℕ) → Type 0
+abbrev pub TrailerCut : List ℕ → Option (List ℕ × List ℕ) → Type 0
 TrailerCut x None = Unit {0}
 TrailerCut x (Some (t, next)) = (x ≡ t ++ next) × IsTrailer t
 
@@ -53,7 +53,7 @@ two_sound : (a : ℕ) (x : List ℕ) → a ≢ cr → TrailerCut (a ∷ x) (two 
 two_sound a [] na = tt
 two_sound a (b ∷ x) na = by_test (TrailerCut (a ∷ b ∷ x)) b cr _ _ (λ e. (refl, (na, e))) (λ n. three_sound a b x na n)
 
-trailer_sound : (x : List ℕ) → TrailerCut x (trailer_cut x)
+pub trailer_sound : (x : List ℕ) → TrailerCut x (trailer_cut x)
 trailer_sound [] = tt
 trailer_sound (a ∷ x) = by_test (TrailerCut (a ∷ x)) a cr _ _ (λ e. (refl, e)) (λ n. two_sound a x n)
 

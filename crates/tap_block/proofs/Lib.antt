@@ -1,4 +1,5 @@
 pub mod First
+pub mod LoneBlocks
 pub mod OneReading
 pub mod Exists
 pub mod Parts
