@@ -1,12 +1,13 @@
 -- Spellings, escapes and the parts of a content.
-use Rattle.std.proofs.Common.{◌≡◌, ℕ, ◌+◌, ◌-◌, ◌<◌, ◌≤◌, ◌==◌, cond, Bool, true, false, ◌&&◌, List, [], ◌∷◌, ◌++◌, length, map, refl, ap, sym, ◌∙◌, subst, append_assoc, arith, Result, Ok, Err, nat_le, take, slice_set}
+use Rattle.std.proofs.Common.{◌≡◌, ℕ, ◌+◌, ◌-◌, ◌<◌, ◌≤◌, ◌==◌, cond, Bool, true, false, ◌&&◌, List, [], ◌∷◌, ◌++◌, length, map, refl, ap, sym, ◌∙◌, subst, append_assoc, arith, Result, Ok, Err, inl, inr, nat_lt, nat_le, take, slice_set}
 use Rattle.std.proofs.lemmas.List.{take_more_set}
 use Rattle.std.specs.List.{AllByRecursion, flat_map}
+use Rattle.std.proofs.lemmas.Bool.{cases_lt}
 use Rattle.std.proofs.lemmas.Bool.Decides.{nat_tests}
 use Rattle.tap_block.specs.declared.faults.FieldFault.{FieldFault}
 use Rattle.tap_block.specs.declared.faults.FieldFault.TheVariants.{Control, SubEnd, SubLetter}
 use Rattle.tap_block.specs.Chars.{sub}
-use Rattle.tap_block.specs.Fields.{Spelling, plain, pair, IsSpelling, spelling, spelled, HasValue, is_plain, is_letter, front, read_field}
+use Rattle.tap_block.specs.Fields.{Spelling, plain, pair, IsSpelling, spelling, spelled, HasValue, is_plain, is_letter, front, read_field, escaped}
 
 pub front_nil : (r : Result (List ℕ) FieldFault) → front [] r ≡ r
 front_nil (Ok x) = refl
@@ -98,3 +99,16 @@ read_is (c ∷ d ∷ f) = first (is_plain c) refl (read_is (d ∷ f)) (read_is f
 -- a field that is read so has this value
 pub read_has : (field value : List ℕ) → read_field field ≡ Ok value → HasValue field value
 read_has field value e = let P : Result (List ℕ) FieldFault → Type 0 = λ r. ReadIs field r in subst P e (read_is field)
+
+-- the field that spells a value is read as this value
+pub escaped_read : (value : List ℕ) → AllByRecursion (λ c. c ≤ 126) value → read_field (escaped value) ≡ Ok value
+escaped_read [] h = refl
+escaped_read (c ∷ value) h = elim (cases_lt c 32) [
+  | inl k ↦ (let t : nat_lt c 32 ≡ true = grind (arith, nat_tests) in
+      let r : (c + 64) - 64 ≡ c = omega arith in
+      ap (λ b. read_field (cond b (sub ∷ (c + 64) ∷ []) (c ∷ []) ++ escaped value)) t
+      ∙ read_pair (c + 64) (escaped value) (omega arith) (omega arith) ∙ ap (λ v. front (((c + 64) - 64) ∷ []) v) (escaped_read value h.1) ∙ ap (λ d. Ok (d ∷ value)) r)
+  | inr k ↦ (let t : nat_lt c 32 ≡ false = grind (arith, nat_tests) in
+      ap (λ b. read_field (cond b (sub ∷ (c + 64) ∷ []) (c ∷ []) ++ escaped value)) t
+      ∙ read_plain c (escaped value) k h.0 ∙ ap (front (c ∷ [])) (escaped_read value h.1))
+]

@@ -1,5 +1,5 @@
 -- Characters, and the sum of a block.
-use Rattle.std.specs.Prelude.{ℕ, ◌+◌, ◌/◌, ◌%◌, List, [], ◌∷◌, map, sum}
+use Rattle.std.specs.Prelude.{ℕ, ◌+◌, ◌/◌, ◌%◌, ◌<◌, List, [], ◌∷◌, map, sum}
 use Rattle.tap_block.specs.declared.ends.End.{End}
 use Rattle.tap_block.specs.declared.ends.End.TheVariants.{Etx, Etb, Us}
 
@@ -31,6 +31,10 @@ esc = 27
 abbrev pub us : ℕ
 us = 31
 
+-- a byte that is its own character
+abbrev pub IsChar : ℕ → Type 0
+IsChar c = c < 128
+
 -- a byte stands for its low seven bits
 abbrev pub char_of : ℕ → ℕ
 char_of byte = byte % 128
@@ -46,6 +50,7 @@ sum_of x = sum x % 4096
 abbrev pub written : ℕ → List ℕ
 written n = (48 + n / 256) ∷ (48 + n / 16 % 16) ∷ (48 + n % 16) ∷ []
 
+-- the character of an end
 abbrev pub end_char : End → ℕ
 end_char Etx = etx
 end_char Etb = etb

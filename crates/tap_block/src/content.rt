@@ -8,7 +8,7 @@ ghost use Rattle.tap_block.specs.Fields.{AreParts};
 use crate::control::CR;
 
 /// Sums are taken modulo this number.
-const SUMS: u32 = 4096;
+pub(crate) const SUMS: u32 = 4096;
 
 /// The sum of the characters that the bytes stand for, modulo 4096, as three characters of four bits each plus 0x30, the highest
 /// first.
@@ -19,6 +19,14 @@ pub fn sum(chars: &[u8]) -> [u8; 3]
     for byte in chars {
         total = (total + u32::from(*byte % 128)) % SUMS;
     }
+    sum_written(total)
+}
+
+/// A sum as three characters of four bits each plus 0x30, the highest first.
+pub(crate) fn sum_written(total: u32) -> [u8; 3]
+    requires { total < SUMS }
+    ensures { result ≡ written total }
+{
     [
         b'0' + (total / 256) as u8,
         b'0' + (total / 16 % 16) as u8,

@@ -1,11 +1,23 @@
 //! What the definitions say, whatever the input.
 
-ghost use Rattle.std.specs.Prelude.{◌≡◌, ℕ, List, Option};
-ghost use Rattle.tap_block.specs.Reading.{Mode, HasOneReading};
-ghost use Rattle.tap_block.specs.Fields.{HasValue};
+ghost use Rattle.std.specs.Prelude.{◌≡◌, ◌≤◌, ◌↔◌, ℕ, [], ◌∷◌, List, Option, Ok, true};
+ghost use Rattle.std.specs.List.{AllByRecursion};
+ghost use Rattle.tap_block.specs.Chars.{IsChar, characters};
+ghost use Rattle.tap_block.specs.Reading.{Mode, AfterLogon, Piece, HasOneReading, Reads, IsBody, items_of, a_block};
+ghost use Rattle.tap_block.specs.Fields.{HasValue, block_of, escaped, read_field};
+ghost use Rattle.tap_block.specs.declared.ends.End.{End};
 
 /// Each character list has exactly one reading, and each field at most one value.
 pub fn one_reading()
     ensures reading { (password : Option (List ℕ)) (mode : Mode) (x : List ℕ) → HasOneReading password mode x }
     ensures value { (field v w : List ℕ) → HasValue field v → HasValue field w → v ≡ w }
+{}
+
+/// A block that was written is read as this one block, and the field that spells a value has this value. A field is read as a value
+/// exactly where it has it.
+pub fn written_is_read()
+    ensures block { (password : Option (List ℕ)) (body : List ℕ) (end : End) → AllByRecursion IsChar body → IsBody body
+        → (piece : Piece) × Reads password AfterLogon (piece ∷ []) [] (characters (block_of body end)) × (items_of password (piece ∷ []) ≡ a_block body end true ∷ []) }
+    ensures escaped { (value : List ℕ) → AllByRecursion (λ c. c ≤ 126) value → read_field (escaped value) ≡ Ok value }
+    ensures value { (field value : List ℕ) → (read_field field ≡ Ok value) ↔ HasValue field value }
 {}
