@@ -1,9 +1,11 @@
 pub mod AlphaPage
 pub mod Commands
 pub mod Input
+pub mod LoneBlock
 pub mod Meant
 pub mod PlainBlock
 pub mod Rows
 pub mod Sends
+pub mod Silent
 pub mod Statuses
 pub mod Wrote

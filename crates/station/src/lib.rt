@@ -19,6 +19,7 @@ mod blocks;
 mod commands;
 mod groups;
 mod input;
+mod lone;
 pub mod one_page;
 mod sending;
 mod slots;
