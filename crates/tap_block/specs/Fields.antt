@@ -31,7 +31,22 @@ pub record HasValue (field value : List ℕ) : Type 0 where
   pub form : field ≡ flat_map spelling spellings
   pub spells : value ≡ map spelled spellings
 
--- the same as a function, with the fault at the first place without a spelling
+-- no spelling begins at the front of the list, which is not empty, and this is why
+abbrev pub IsFaultAt : FieldFault → List ℕ → Type 0
+IsFaultAt Control (c ∷ f) = (c ≢ sub) × (IsSpelling (plain c) → ⊥)
+IsFaultAt SubEnd (c ∷ []) = c ≡ sub
+IsFaultAt SubLetter (c ∷ d ∷ f) = (c ≡ sub) × (IsSpelling (pair d) → ⊥)
+IsFaultAt fault f = ⊥
+
+-- the field is a list of spellings up to a place where none begins
+pub record HasFault (field : List ℕ) (fault : FieldFault) : Type 0 where
+  pub spellings : List Spelling
+  pub each : AllByRecursion IsSpelling spellings
+  pub behind : List ℕ
+  pub form : field ≡ flat_map spelling spellings ++ behind
+  pub fault_is : IsFaultAt fault behind
+
+-- both as a function
 abbrev pub is_plain : ℕ → Bool
 is_plain c = nat_le 32 c && nat_le c 126
 
@@ -53,7 +68,7 @@ read_field (c ∷ d ∷ f) = elim (is_plain c) [
   ]
 ]
 
--- what spells a value
+-- the characters that spell one of a value, and those that spell all
 abbrev pub escape_of : ℕ → List ℕ
 escape_of c = if nat_lt c 32 then sub ∷ (c + 64) ∷ [] else c ∷ []
 
@@ -88,6 +103,7 @@ first_part (Some (first, x)) = second_part first (line_cut x)
 abbrev pub parts_of : List ℕ → Option (List ℕ × List ℕ)
 parts_of content = first_part (line_cut content)
 
+-- the content has two parts, and both have a value
 pub record HasFields (content : List ℕ) (id text : List ℕ) : Type 0 where
   pub first : List ℕ
   pub second : List ℕ

@@ -1,9 +1,9 @@
 -- What a scanner's fields stand for.
-use Rattle.std.specs.Prelude.{ℕ, ◌≤◌, ◌<◌, List, length}
+use Rattle.std.specs.Prelude.{ℕ, ◌+◌, ◌≤◌, ◌<◌, List, length}
 use Rattle.tap_block.specs.declared.scanner.Place.{Place}
 use Rattle.tap_block.specs.declared.scanner.Place.TheVariants.{InLine, Between, AfterEot, InBody, InTrailer}
 use Rattle.tap_block.specs.declared.scanner.Scanner.TheInside.{Inside}
-use Rattle.tap_block.specs.Brief.{Brief, in_line, between, after_eot, in_body, in_trailer}
+use Rattle.tap_block.specs.Brief.{Brief, in_line, between, after_eot, in_body, in_trailer, body_kept}
 
 -- the form of the rest, by the place and what is kept there
 abbrev pub brief_at : Place → List ℕ → ℕ → ℕ → List ℕ → Brief
@@ -19,6 +19,6 @@ brief_of s = brief_at s.place s.line.items s.size s.total s.trailer.items
 
 -- the fields are in their ranges
 pub record IsInRange (s : Inside) : Type 0 where
-  pub size_bound : s.size ≤ 251
+  pub size_bound : s.size ≤ body_kept + 1
   pub total_bound : s.total < 4096
   pub trailer_bound : length s.trailer.items < 4

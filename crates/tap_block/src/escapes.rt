@@ -2,7 +2,7 @@
 
 ghost use Rattle.std.specs.Prelude.{◌≡◌, ℕ, ◌+◌, ◌*◌, ◌<◌, ◌≤◌, List, [], ◌∷◌, length, take, MatchResult, IfOk, Ok, Err};
 ghost use Rattle.std.specs.List.{All};
-ghost use Rattle.tap_block.specs.Fields.{read_field, front, escaped};
+ghost use Rattle.tap_block.specs.Fields.{read_field, front, escaped, HasValue, HasFault};
 
 use crate::control::SUB;
 use crate::faults::FieldFault;
@@ -29,7 +29,7 @@ fn spelled(field: &[u8]) -> Result<(u8, &[u8]), FieldFault>
 /// answer is the fault of its first place where no spelling begins, and what `into` then holds is open.
 pub fn unescape(field: &[u8], into: &mut [u8]) -> Result<usize, FieldFault>
     requires room { length field.now ≤ length into.old }
-    ensures value { MatchResult result (λ n. read_field field.now ≡ Ok (take n into.new)) (λ e. read_field field.now ≡ Err e) }
+    ensures value { MatchResult result (λ n. HasValue field.now (take n into.new)) (λ fault. HasFault field.now fault) }
     ensures fits { IfOk result (λ n. n ≤ length field.now) }
 {
     let mut count = 0;

@@ -21,6 +21,10 @@ pub mod faults;
 pub mod items;
 pub mod laws;
 pub mod scanner;
+#[cfg(test)]
+mod tests;
+#[cfg(test)]
+mod twin;
 pub mod writer;
 
 pub use content::{fields, sum};

@@ -139,15 +139,11 @@ impl Scanner {
     {
         match self.place {
             Place::InLine => self.step_line(c),
-            Place::Between => {
-                self.begin_item(c);
-                None
+            Place::AfterEot if c == CR => {
+                self.place = Place::Between;
+                Some(Item::Bye)
             }
-            Place::AfterEot => {
-                if c == CR {
-                    self.place = Place::Between;
-                    return Some(Item::Bye);
-                }
+            Place::Between | Place::AfterEot => {
                 self.begin_item(c);
                 None
             }

@@ -1,5 +1,5 @@
 use Rattle.tap_block.specs.Reading.{block}
-use Rattle.tap_block.proofs.Values.{escaped_read, read_has, value_read}
+use Rattle.tap_block.proofs.Values.{escaped_read, read_has}
 use Rattle.tap_block.proofs.WholeBlocks.{block_item, right_trailer, written_reads}
 use Rattle.tap_block.proofs.laws.written_is_read.Goals as goal
 
@@ -7,7 +7,4 @@ pub returns-clause-block : goal.returns-clause-block
 returns-clause-block c password body end h k = (block body end (right_trailer body end), written_reads password body end h k, block_item password body end)
 
 pub returns-clause-escaped : goal.returns-clause-escaped
-returns-clause-escaped c value h = escaped_read value h
-
-pub returns-clause-value : goal.returns-clause-value
-returns-clause-value c field value = (read_has field value, value_read field value)
+returns-clause-escaped c value h = read_has _ value (escaped_read value h)
