@@ -3,5 +3,5 @@ pub mod CommandLines
 pub mod Fronts
 pub mod LoneBlocks
 pub mod OnePages
-pub mod PlainBlocks
+pub mod ReadTexts
 pub mod Sendings

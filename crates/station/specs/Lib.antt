@@ -3,7 +3,6 @@ pub mod Commands
 pub mod Input
 pub mod LoneBlock
 pub mod Meant
-pub mod PlainBlock
 pub mod Rows
 pub mod Sends
 pub mod Silent

@@ -1,8 +1,6 @@
 -- What a run does, command by command and status by status.
-use Rattle.std.specs.Prelude.{◌≡◌, ℕ, ◌≤◌, length, Bool, List, [], ◌∷◌, Option, Some, None, IsTrue}
+use Rattle.std.specs.Prelude.{◌≡◌, ℕ, ◌≤◌, length, Bool, true, false, List, [], ◌∷◌, Option, Some, None, IsTrue}
 use Rattle.air.specs.Air.{IsAir}
-use Rattle.codeword.specs.declared.functions.Function.TheVariants.{Alpha}
-use Rattle.page_text.specs.Fits.{Fits}
 use Rattle.tap_block.specs.Chars.{characters}
 use Rattle.wires.specs.Causes.{Rose}
 use Rattle.wires.specs.Files.{Files}
@@ -10,10 +8,10 @@ use Rattle.wires.specs.Left.{Left, Took}
 use Rattle.wires.specs.Line.{Line}
 use Rattle.wires.specs.Written.{Written}
 use Rattle.station.specs.declared.statuses.Status.{Status}
-use Rattle.station.specs.declared.statuses.Status.TheVariants.{BadPages, Done, InputFault, NotBlock, OutFault, Settings, Usage}
+use Rattle.station.specs.declared.statuses.Status.TheVariants.{BadPages, BadSum, BadText, Done, InputFault, NotBlock, OutFault, Settings, Usage}
 use Rattle.station.specs.AlphaPage.{alpha_page}
 use Rattle.station.specs.Commands.{AreCommand, Command, One}
-use Rattle.station.specs.PlainBlock.{IsPlainBlock}
+use Rattle.station.specs.LoneBlock.{HasText, IsLoneBlock, IsMarkedBlock}
 use Rattle.station.specs.Statuses.{line_of}
 use Rattle.station.specs.Wrote.{as_bits, Wrote, WroteFront}
 
@@ -26,20 +24,33 @@ pub record Streams : Type 0 where
 abbrev pub most_read : ℕ
 most_read = 257
 
--- The input was read whole, and it is the block of this text. No read failed.
-pub record ReadBlock (old new : Left ℕ) (text : List ℕ) : Type 0 where
+-- What a run read of its input. No read failed.
+pub record ReadInput (old new : Left ℕ) : Type 0 where
   pub taken : List ℕ
   pub took : Took old new taken
   pub few : length taken ≤ most_read
-  pub whole : IsTrue old.tells → new.left ≡ []
-  pub block : IsTrue old.tells → IsPlainBlock (characters old.left) text
 
--- The input was read as far as it takes to see that it is no block of any text. No read failed.
+-- The input was read whole, and it is one block with this body. The mark says whether its trailer is right.
+pub record ReadBlock (old new : Left ℕ) (body : List ℕ) (right : Bool) : Type 0 where
+  pub input : ReadInput old new
+  pub whole : IsTrue old.tells → new.left ≡ []
+  pub block : IsTrue old.tells → IsMarkedBlock (characters old.left) body right
+
+-- The input was read as far as it takes to see that it isn't one block.
 pub record ReadNoBlock (old new : Left ℕ) : Type 0 where
-  pub taken : List ℕ
-  pub took : Took old new taken
-  pub few : length taken ≤ most_read
-  pub no_block : IsTrue old.tells → (text : List ℕ) → IsPlainBlock (characters old.left) text → ⊥
+  pub input : ReadInput old new
+  pub no_block : IsTrue old.tells → (body trailer : List ℕ) → IsLoneBlock (characters old.left) body trailer → ⊥
+
+-- The input is one block with a wrong trailer.
+pub record ReadBadSum (old new : Left ℕ) : Type 0 where
+  pub body : List ℕ
+  pub read : ReadBlock old new body false
+
+-- The input is one block with a right trailer, and its content has no text.
+pub record ReadBadText (old new : Left ℕ) : Type 0 where
+  pub body : List ℕ
+  pub read : ReadBlock old new body true
+  pub no_text : (text : List ℕ) → HasText body text → ⊥
 
 -- A read failed, and a fault of the input was counted, which no steady input has.
 pub record ReadFailed (old new : Left ℕ) : Type 0 where
@@ -48,21 +59,25 @@ pub record ReadFailed (old new : Left ℕ) : Type 0 where
   pub faults : Rose old.faults new.faults
   pub lent : new.lent ≡ old.lent
 
--- the page of a block, whose text fits, and the bits of its transmission
+-- The input is one block with a right trailer; this is the text of its content, and these are the bits of the transmission of its
+-- page.
 pub record PageSent (capcode : ℕ) (old new : Left ℕ) : Type 0 where
+  pub body : List ℕ
+  pub read : ReadBlock old new body true
   pub text : List ℕ
-  pub read : ReadBlock old new text
-  pub fits : Fits Alpha text
+  pub has_text : HasText body text
   pub bits : List Bool
   pub air : IsAir (alpha_page capcode text ∷ []) bits
 
--- `one`, by its status. Done: the input is one block, and the bits of the transmission of its page were written. OutFault: it is
--- one block, and a write failed after a front of these bits. NotBlock: it is no block. InputFault: a read failed. No other status
--- is answered; `one` takes no memory.
+-- `one`, by its status. Done: the bits of the transmission of the page were written. OutFault: a write failed after a front of them.
+-- NotBlock: the input isn't one block. BadSum: its trailer is wrong. BadText: its content has no text. InputFault: a read failed. No
+-- other status is answered; `one` takes no memory.
 abbrev pub OneRow : ℕ → Streams → Streams → Status → Type 0
 OneRow capcode old new Done = (sent : PageSent capcode old.input new.input) × Wrote (as_bits old.out) (as_bits new.out) sent.bits
 OneRow capcode old new OutFault = (sent : PageSent capcode old.input new.input) × WroteFront (as_bits old.out) (as_bits new.out) sent.bits
 OneRow capcode old new NotBlock = ReadNoBlock old.input new.input × (new.out ≡ old.out)
+OneRow capcode old new BadSum = ReadBadSum old.input new.input × (new.out ≡ old.out)
+OneRow capcode old new BadText = ReadBadText old.input new.input × (new.out ≡ old.out)
 OneRow capcode old new InputFault = ReadFailed old.input new.input × (new.out ≡ old.out)
 OneRow capcode old new other = ⊥
 

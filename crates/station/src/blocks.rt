@@ -1,78 +1,90 @@
 //! The one block that `one` reads: docs/profile.md, "block", "sum" and "content".
 
-ghost use Rattle.std.specs.Prelude.{◌≡◌, ℕ, ◌↔◌, List, [], ◌∷◌, ◌++◌, IsTrue, MatchOption};
-ghost use Rattle.std.specs.List.{All};
-ghost use Rattle.tap_block.specs.Chars.{characters, cr, etx, stx, sum_of, written};
-ghost use Rattle.station.specs.PlainBlock.{ArePlainFields, IsPlain, IsPlainBlock};
+ghost use Rattle.std.specs.Prelude.{◌≡◌, ◌≢◌, ℕ, ◌+◌, ◌≤◌, Bool, List, [], ◌∷◌, ◌++◌, length, IsFalse, IsTrue, MatchOption, None, Option, Some};
+ghost use Rattle.tap_block.specs.declared.ends.End.TheVariants.{Etx};
+ghost use Rattle.tap_block.specs.declared.items.Item.TheVariants.{Block};
+ghost use Rattle.tap_block.specs.Brief.{Held, StandsFor};
+ghost use Rattle.tap_block.specs.Chars.{characters, etx, stx};
+ghost use Rattle.tap_block.specs.Reading.{AfterLogon, Entry};
+ghost use Rattle.station.specs.LoneBlock.{IsLoneBlock, IsMarkedBlock};
+ghost use Rattle.station.specs.Silent.{BreaksSilence};
 
-use tap_block::control::{CR, ETX, STX};
-use tap_block::{fields, sum};
-
-/// The most characters that a body may have.
-const LONGEST_BODY: usize = 250;
-
-/// How many characters a right trailer has: the sum and CR.
-const TRAILER: usize = 4;
+use tap_block::control::{ETX, STX};
+use tap_block::{End, Item, LONGEST_BODY, Scanner, TRAILER};
 
 /// How many characters the longest block has: STX, the body, ETX and the trailer.
 pub(crate) const LONGEST_BLOCK: usize = 1 + LONGEST_BODY + 1 + TRAILER;
 
-/// Whether all characters are printable: 0x20 to 0x7E.
-fn is_plain(field: &[u8]) -> bool
-    ensures { IsTrue result ↔ All IsPlain field.now }
+/// Feeds characters to a scanner, and says whether none of them completed an item.
+fn is_silent(scanner: &mut Scanner, chars: &[u8]) -> bool
+    ensures password { scanner.new.password ≡ scanner.old.password }
+    ensures silent { IsTrue result → StandsFor AfterLogon scanner.old [] [] → StandsFor AfterLogon scanner.new (characters chars.now) [] }
+    ensures broken { IsFalse result → StandsFor AfterLogon scanner.old [] [] → BreaksSilence scanner.old.password (characters chars.now) }
 {
-    field.iter().all(|c| 0x20 <= *c && *c <= 0x7E)
-}
-
-/// The second of two fields of printable characters. None exactly where the content isn't two such fields.
-fn plain_field(content: &[u8]) -> Option<&[u8]>
-    ensures { MatchOption result ((first second : List ℕ) → ArePlainFields content.now first second → ⊥) (λ second. (first : List ℕ) × ArePlainFields content.now first second.now) }
-{
-    let Some((first, second)) = fields(content) else {
-        return None;
-    };
-    if is_plain(first) && is_plain(second) {
-        Some(second)
-    } else {
-        None
+    for c in chars {
+        if scanner.feed(*c).is_some() {
+            return false;
+        }
     }
+    true
 }
 
-/// The body of a block from its STX to its ETX. None exactly where it doesn't begin and end so.
-fn body_of(block: &[u8]) -> Option<&[u8]>
-    ensures { MatchOption result ((body : List ℕ) → block.now ≡ stx ∷ (body ++ etx ∷ []) → ⊥) (λ body. block.now ≡ stx ∷ (body.now ++ etx ∷ [])) }
+/// The length of the body of a block that ends in ETX and isn't too long, and whether its trailer is right.
+fn short_block(item: Item) -> Option<(u32, bool)>
+    ensures { MatchOption result ((size : ℕ) (right : Bool) → size ≤ 250 → item ≢ Block Etx right size) (λ r. (item ≡ Block Etx r.1 r.0) × (r.0 ≤ 250)) }
 {
-    match block {
-        [STX, body @ .., ETX] => Some(body),
+    match item {
+        Item::Block {
+            end: End::Etx,
+            sum_ok,
+            length,
+        } if length <= LONGEST_BODY as u32 => Some((length, sum_ok)),
         _ => None,
     }
 }
 
-/// Whether the trailer is the sum of the block from its STX through its ETX, and CR.
-fn is_right(block: &[u8], trailer: &[u8]) -> bool
-    ensures { IsTrue result ↔ (trailer.now ≡ written (sum_of (characters block.now)) ++ cr ∷ []) }
+/// The characters between an STX at the front and an ETX so many characters behind it.
+fn between(chars: &[u8], size: usize) -> Option<&[u8]>
+    ensures { MatchOption result ((body rest : List ℕ) → chars.now ≡ (stx ∷ body) ++ etx ∷ rest → length body ≡ size → ⊥)
+        (λ body. (rest : List ℕ) × (chars.now ≡ (stx ∷ body.now) ++ etx ∷ rest) × (length body.now ≡ size)) }
 {
-    let [high, middle, low] = sum(block);
-    trailer == [high, middle, low, CR].as_slice()
-}
-
-/// The text of a block that stands alone: its second field. None exactly where the characters aren't one block with end ETX and a
-/// body of at most 250, with a right trailer and two fields of printable characters.
-pub(crate) fn plain_text(chars: &[u8]) -> Option<&[u8]>
-    ensures { MatchOption result ((text : List ℕ) → IsPlainBlock chars.now text → ⊥) (λ text. IsPlainBlock chars.now text.now) }
-{
-    if chars.len() < TRAILER {
+    let [STX, behind @ ..] = chars else {
+        return None;
+    };
+    if size >= behind.len() {
         return None;
     }
-    let (block, trailer) = chars.split_at(chars.len() - TRAILER);
-    let Some(body) = body_of(block) else {
+    let (body, ended) = behind.split_at(size);
+    match ended {
+        [ETX, ..] => Some(body),
+        _ => None,
+    }
+}
+
+/// The body of the one block that the characters are, and whether its trailer is right. None exactly where they aren't one block
+/// with the end ETX and a body of at most 250 characters.
+pub(crate) fn lone_block(chars: &[u8]) -> Option<(&[u8], bool)>
+    requires { characters chars.now ≡ chars.now }
+    ensures { MatchOption result ((body trailer : List ℕ) → IsLoneBlock chars.now body trailer → ⊥) (λ r. IsMarkedBlock chars.now r.0.now r.1) }
+{
+    let Some((last, before)) = chars.split_last() else {
         return None;
     };
-    let Some(text) = plain_field(body) else {
+    let mut scanner = Scanner::blocks();
+    if !is_silent(&mut scanner, before) {
+        return None;
+    }
+    let Some(item) = scanner.feed(*last) else {
         return None;
     };
-    if body.len() <= LONGEST_BODY && is_right(block, trailer) {
-        Some(text)
+    let Some((size, right)) = short_block(item) else {
+        return None;
+    };
+    let Some(body) = between(chars, size as usize) else {
+        return None;
+    };
+    if body == scanner.body() {
+        Some((body, right))
     } else {
         None
     }

@@ -11,6 +11,7 @@
 //! - `input`: reading the front of the input.
 //! - `blocks`: the one block that `one` reads.
 //! - `groups`: the packing of an alphanumeric text into groups of 20 bits.
+//! - `texts`: the text of a content.
 //! - `slots`: the words in the slots of one page's transmission.
 //! - `sending`: writing them, a batch at a time.
 #![tactic(auto)]
@@ -19,13 +20,13 @@ mod blocks;
 mod commands;
 mod groups;
 mod input;
-mod lone;
 pub mod one_page;
 mod sending;
 mod slots;
 pub mod statuses;
 #[cfg(test)]
 mod tests;
+mod texts;
 pub mod top;
 
 pub use one_page::one;
