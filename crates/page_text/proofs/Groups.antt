@@ -7,6 +7,7 @@ use Rattle.bits.specs.Bits.{rising_bits_of, bit_value, number}
 use Rattle.bits.proofs.Lengths.{length-rising_bits_of}
 use Rattle.bits.proofs.Numbers.{bit_value-eqb, number-lt, number-push}
 use Rattle.page_text.specs.Groups.{pieces, code_bits, group_count, groups_of}
+use Rattle.page_text.proofs.RunTogether.{length-flat_map, get_or-flat_map, length-pieces, get_or-pieces}
 
 -- bit i of a number, the least significant first
 abbrev pub bit_at : ℕ → ℕ → Bool
@@ -23,35 +24,17 @@ get_or-rising_bits_of (suc w) n (suc i) l =
 
 -- each code has w bits
 pub length-code_bits : (w : ℕ) (codes : List ℕ) → length (code_bits w codes) ≡ length codes * w
-length-code_bits w [] = omega arith
-length-code_bits w (c ∷ codes) =
-    length-append (rising_bits_of w c) (code_bits w codes) ∙ omega (arith, length-rising_bits_of w c, length-code_bits w codes)
+length-code_bits w codes = length-flat_map (rising_bits_of w) w (length-rising_bits_of w) codes
 
 -- a bit of codes run together is a bit of one of them
 pub get_or-code_bits : (w : ℕ) (codes : List ℕ) (i : ℕ) → 0 < w → i < length codes * w
     → get_or (code_bits w codes) i false ≡ bit_at (get_or codes (i / w) 0) (i % w)
-get_or-code_bits w [] i p l = absurd (omega (arith, l))
-get_or-code_bits w (c ∷ codes) i p l = elim (split i w) [ inl h ↦ here h | inr h ↦ there h (get_or-code_bits w codes (i - w) p (omega (arith, l, h))) ]
+get_or-code_bits w codes i p l =
+    get_or-flat_map (rising_bits_of w) w (length-rising_bits_of w) codes i p l
+    ∙ get_or-rising_bits_of w (get_or codes (i / w) 0) (i % w) (within i w p)
   where
-    split : (i w : ℕ) → (i < w) ⊎ (w ≤ i)
-    split i w = grind arith
-
-    long : length (rising_bits_of w c) ≡ w
-    long = length-rising_bits_of w c
-
-    here : i < w → get_or (rising_bits_of w c ++ code_bits w codes) i false ≡ bit_at (get_or (c ∷ codes) (i / w) 0) (i % w)
-    here h =
-        get_or_append_left (rising_bits_of w c) (code_bits w codes) false i (omega (arith, h, long)) ∙ get_or-rising_bits_of w c i h
-        ∙ ap₂ (λ a b. bit_at (get_or (c ∷ codes) a 0) b) (sym (div-eq_of_lt h)) (sym (mod-eq_of_lt h))
-
-    there : w ≤ i → get_or (code_bits w codes) (i - w) false ≡ bit_at (get_or codes ((i - w) / w) 0) ((i - w) % w)
-        → get_or (rising_bits_of w c ++ code_bits w codes) i false ≡ bit_at (get_or (c ∷ codes) (i / w) 0) (i % w)
-    there h rest =
-        let back : i - w + w ≡ i = omega (arith, h) in
-        let quotient : i / w ≡ suc ((i - w) / w) = ap (λ n. n / w) (sym back) ∙ add-div_right (i - w) p ∙ add-one ((i - w) / w) in
-        let remains : i % w ≡ (i - w) % w = ap (λ n. n % w) (sym back) ∙ add-mod_right (i - w) w in
-        get_or-append_right (rising_bits_of w c) (code_bits w codes) w i false long h ∙ rest
-        ∙ ap₂ (λ a b. bit_at (get_or (c ∷ codes) a 0) b) (sym quotient) (sym remains)
+    within : (i w : ℕ) → 0 < w → i % w < w
+    within i w p = grind arith
 
 -- how many bits there are with the fill
 pub length-filled_bits : (w fill : ℕ) (codes : List ℕ) → length (code_bits w (codes ++ replicate 20 fill)) ≡ (length codes + 20) * w
@@ -80,30 +63,16 @@ bit_value-filled_bits w fill codes i p l =
     quotient : (i n w : ℕ) → 0 < w → i < n * w → i / w < n
     quotient i n w p l = grind arith
 
--- how many pieces there are
-pub length-pieces : (k n : ℕ) (bits : List Bool) → length (map number (pieces k n bits)) ≡ n
-length-pieces k zero bits = refl
-length-pieces k (suc n) bits = ap suc (length-pieces k n (drop k bits))
-
--- the number of one piece
-pub get_or-pieces : (w n k : ℕ) (bits : List Bool) → k < n
-    → get_or (map number (pieces w n bits)) k 0 ≡ number (take w (drop (w * k) bits))
-get_or-pieces w zero k bits l = absurd (omega (arith, l))
-get_or-pieces w (suc n) zero bits l = let e : 0 ≡ w * zero = omega arith in ap (λ d. number (take w (drop d bits))) e
-get_or-pieces w (suc n) (suc k) bits l =
-    let e : w + w * k ≡ w * suc k = omega arith in
-    get_or-pieces w n k (drop w bits) (omega (arith, l)) ∙ ap (λ t. number (take w t)) (drop-drop (w * k) w bits ∙ ap (λ d. drop d bits) e)
-
 -- how many groups a text has
 pub length-groups_of : (w fill : ℕ) (codes : List ℕ) → length (groups_of w fill codes) ≡ group_count w (length codes)
 unfolding groups_of
-length-groups_of w fill codes = length-pieces 20 (group_count w (length codes)) (code_bits w (codes ++ replicate 20 fill))
+length-groups_of w fill codes = length-pieces number 20 (group_count w (length codes)) (code_bits w (codes ++ replicate 20 fill))
 
 -- one group
 pub get_or-groups_of : (w fill : ℕ) (codes : List ℕ) (k : ℕ) → k < group_count w (length codes)
     → get_or (groups_of w fill codes) k 0 ≡ number (take 20 (drop (20 * k) (code_bits w (codes ++ replicate 20 fill))))
 unfolding groups_of
-get_or-groups_of w fill codes k l = get_or-pieces 20 (group_count w (length codes)) k (code_bits w (codes ++ replicate 20 fill)) l
+get_or-groups_of w fill codes k l = get_or-pieces number 20 (group_count w (length codes)) k (code_bits w (codes ++ replicate 20 fill)) l
 
 -- at most k bits make a number below 2 ^ k
 pub number-take-lt : (n j k : ℕ) (bits : List Bool) → n ≡ number (take j bits) → j ≤ k → n < 2 ^ k

@@ -1,2 +1,7 @@
+pub mod Back
+pub mod Codings
 pub mod Groups
+pub mod Judged
+pub mod RunTogether
 mod Rows
+pub mod Texts

@@ -1,5 +1,5 @@
 -- The groups of a text: its characters' codes as bits, run together, filled, and cut into pieces of 20.
-use Rattle.std.specs.Prelude.{ℕ, zero, suc, ◌+◌, ◌*◌, ◌/◌, ◌==◌, Bool, List, [], ◌∷◌, ◌++◌, length, map, flat_map, take, drop, replicate, position, unwrap_or, codes}
+use Rattle.std.specs.Prelude.{◌≡◌, ℕ, zero, suc, ◌+◌, ◌*◌, ◌/◌, ◌==◌, Bool, List, [], ◌∷◌, ◌++◌, length, map, flat_map, take, drop, replicate, position, unwrap_or, codes}
 use Rattle.bits.specs.Bits.{rising_bits_of, number}
 use Rattle.codeword.specs.declared.functions.Function.{Function}
 use Rattle.codeword.specs.declared.functions.Function.TheVariants.{Numeric, Tone1, Tone2, Alpha}
@@ -25,6 +25,7 @@ groups_of w fill codes = map number (pieces 20 (group_count w (length codes)) (c
 abbrev pub numeric_characters : List ℕ
 numeric_characters = codes "0123456789*U -]["
 
+-- the code of a numeric character
 abbrev pub numeric_code : ℕ → ℕ
 numeric_code c = unwrap_or (position (λ d. d == c) numeric_characters) 0
 
@@ -35,3 +36,7 @@ groups Numeric text = groups_of 4 12 (map numeric_code text)
 groups Tone1 text = []
 groups Tone2 text = []
 groups Alpha text = groups_of 7 0 text
+
+-- each text of n characters has so many groups
+abbrev pub HasGroups : Function → ℕ → ℕ → Type 0
+HasGroups function n count = (text : List ℕ) → length text ≡ n → length (groups function text) ≡ count

@@ -1,0 +1,13 @@
+//! What the definitions say, whatever the text.
+
+ghost use Rattle.std.specs.Prelude.{◌≡◌, ℕ, ◌≤◌, List, length};
+ghost use Rattle.codeword.specs.declared.functions.Function.{Function};
+ghost use Rattle.page_text.specs.Fits.{Fits};
+ghost use Rattle.page_text.specs.Groups.{groups};
+ghost use Rattle.page_text.specs.Texts.{text_of};
+
+/// A text that fits is read back from its groups, which are at most 140.
+pub fn back()
+    ensures text { (function : Function) (text : List ℕ) → Fits function text → text_of function (groups function text) ≡ text }
+    ensures few { (function : Function) (text : List ℕ) → Fits function text → length (groups function text) ≤ 140 }
+{}

@@ -1,0 +1,3 @@
+//! Worked texts, groups and lines.
+
+use super::*;
