@@ -1,6 +1,6 @@
 -- The text of a content: where there is none.
-use Rattle.std.proofs.Common.{◌≡◌, ℕ, Bool, true, false, List, Result, Ok, Err, sym, ◌∙◌, ap, subst}
-use Rattle.std.specs.Prelude.{MatchResult}
+use Rattle.std.proofs.Common.{◌≡◌, ℕ, Bool, true, false, List, Result, Ok, Err, refl, sym, ◌∙◌, ap, subst}
+use Rattle.std.specs.Prelude.{IsOk, MatchResult}
 use Rattle.std.specs.Result.{is_err}
 use Rattle.codeword.specs.declared.functions.Function.TheVariants.{Alpha}
 use Rattle.page_text.specs.Fits.{Fits}
@@ -41,3 +41,11 @@ failed_with (Err e) P Q f h = (e, h)
 pub held_with : {T E : Type 0} (r : Result T E) (P : T → Type 0) (Q : E → Type 0) → is_err r ≡ false → MatchResult r P Q → (x : T) × P x
 held_with (Ok x) P Q f h = (x, h)
 held_with (Err e) P Q f h = cc
+
+pub not_ok : {T E : Type 0} (r : Result T E) → is_err r ≡ true → IsOk r → ⊥
+not_ok (Ok x) f h = cc
+not_ok (Err e) f h = cc
+
+pub ok_of : {T E : Type 0} (r : Result T E) → is_err r ≡ false → IsOk r
+ok_of (Ok x) f = refl
+ok_of (Err e) f = cc

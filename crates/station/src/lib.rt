@@ -10,7 +10,6 @@
 //! - `one_page`: the command `one`.
 //! - `input`: reading the front of the input.
 //! - `blocks`: the one block that `one` reads.
-//! - `groups`: the packing of an alphanumeric text into groups of 20 bits.
 //! - `texts`: the text of a content.
 //! - `slots`: the words in the slots of one page's transmission.
 //! - `sending`: writing them, a batch at a time.
@@ -18,7 +17,6 @@
 
 mod blocks;
 mod commands;
-mod groups;
 mod input;
 pub mod one_page;
 mod sending;

@@ -1,7 +1,8 @@
 //! Writing the transmission of one page, a batch at a time.
 
-ghost use Rattle.std.specs.Prelude.{◌≤◌, length};
 ghost use Rattle.bits.specs.Bits.{words_bits};
+ghost use Rattle.codeword.specs.declared.functions.Function.TheVariants.{Alpha};
+ghost use Rattle.page_text.specs.Fits.{Fits};
 ghost use Rattle.air.specs.Air.{preamble, transmission};
 ghost use Rattle.scheduler.specs.OnePage.{slots_of_one};
 ghost use Rattle.wires.specs.Written.{Puts};
@@ -28,7 +29,7 @@ fn send_preamble<K: BitSink>(sink: &mut K) -> Result<(), Failed>
 
 /// Writes the batches of an alphanumeric page, each by one call.
 fn send_batches<K: BitSink>(capcode: Capcode, text: &[u8], sink: &mut K) -> Result<(), Failed>
-    requires { length text.now ≤ 400 }
+    requires { Fits Alpha text.now }
     ensures { Puts (K.state sink.old) (K.state sink.new) (words_bits (batches_of (alpha_page capcode text.now))) result }
 {
     for number in 0..batch_count(capcode, text) {
@@ -39,7 +40,7 @@ fn send_batches<K: BitSink>(capcode: Capcode, text: &[u8], sink: &mut K) -> Resu
 
 /// Writes the words of the transmission of an alphanumeric page: the preamble, and then batch by batch.
 fn send_words<K: BitSink>(capcode: Capcode, text: &[u8], sink: &mut K) -> Result<(), Failed>
-    requires { length text.now ≤ 400 }
+    requires { Fits Alpha text.now }
     ensures { Puts (K.state sink.old) (K.state sink.new) (words_bits (transmission (slots_of_one (alpha_page capcode text.now)))) result }
 {
     send_preamble(sink)?;
@@ -48,7 +49,7 @@ fn send_words<K: BitSink>(capcode: Capcode, text: &[u8], sink: &mut K) -> Result
 
 /// Writes the transmission of an alphanumeric page as bytes.
 pub(crate) fn send_page<O: Sink>(capcode: Capcode, text: &[u8], out: &mut O) -> Result<(), Failed>
-    requires { length text.now ≤ 400 }
+    requires { Fits Alpha text.now }
     ensures { Sends (alpha_page capcode text.now) (O.state out.old) (O.state out.new) result }
 {
     let mut words = WordBytes::over(out);

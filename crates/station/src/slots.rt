@@ -4,13 +4,14 @@ ghost use Rattle.std.specs.Prelude.{◌≡◌, ◌+◌, ◌*◌, ◌<◌, ◌≤
 ghost use Rattle.codeword.specs.Capcodes.{frame_of};
 ghost use Rattle.codeword.specs.declared.functions.Function.TheVariants.{Alpha};
 ghost use Rattle.codeword.specs.declared.words.TheConstants.{IDLE, SYNC};
+ghost use Rattle.page_text.specs.Fits.{Fits};
 ghost use Rattle.page_text.specs.Groups.{groups};
 ghost use Rattle.scheduler.specs.OnePage.{batches_of_one, slots_of_one};
 ghost use Rattle.scheduler.specs.Slots.{frame, run};
 ghost use Rattle.station.specs.AlphaPage.{alpha_page};
 
-use crate::groups::{group, group_count};
 use codeword::{Capcode, Function, IDLE, SYNC, address_word, message_word};
+use page_text::{group, word_count};
 
 /// How many slots a frame has (M.584-2, batch structure).
 const FRAME_SLOTS: usize = 2;
@@ -31,16 +32,16 @@ fn run_start(capcode: Capcode) -> usize
 
 /// How many words the run of a text has: an address word, and a message word for each group.
 fn run_length(text: &[u8]) -> usize
-    requires { length text.now ≤ 400 }
+    requires { Fits Alpha text.now }
     ensures value { result ≡ length (groups Alpha text.now) + 1 }
     ensures small { result ≤ 141 }
 {
-    1 + group_count(text.len())
+    1 + word_count(Function::Alpha, text.len())
 }
 
 /// How many batches the transmission of this alphanumeric page has: its last place is idle.
 pub(crate) fn batch_count(capcode: Capcode, text: &[u8]) -> usize
-    requires { length text.now ≤ 400 }
+    requires { Fits Alpha text.now }
     ensures { result ≡ batches_of_one (frame (alpha_page capcode text.now)) (length (run (alpha_page capcode text.now))) }
 {
     (run_start(capcode) + run_length(text)) / BATCH_SLOTS + 1
@@ -48,19 +49,19 @@ pub(crate) fn batch_count(capcode: Capcode, text: &[u8]) -> usize
 
 /// One word of the run, counted from 0.
 fn run_word(capcode: Capcode, text: &[u8], k: usize) -> u32
-    requires short { length text.now ≤ 400 }
+    requires fits { Fits Alpha text.now }
     requires within { k < length (groups Alpha text.now) + 1 }
     ensures { result ≡ slice_index (run (alpha_page capcode text.now)) k }
 {
     match k.checked_sub(1) {
         None => address_word(capcode, Function::Alpha),
-        Some(k) => message_word(group(text, k)),
+        Some(k) => message_word(group(Function::Alpha, text, k)),
     }
 }
 
 /// The word in one slot: a word of the run in its places, and the idle word in all others.
 fn slot(capcode: Capcode, text: &[u8], place: usize) -> u32
-    requires { length text.now ≤ 400 }
+    requires { Fits Alpha text.now }
     ensures { result ≡ slice_index_or (slots_of_one (alpha_page capcode text.now)) place IDLE }
 {
     match place.checked_sub(run_start(capcode)) {
@@ -71,7 +72,7 @@ fn slot(capcode: Capcode, text: &[u8], place: usize) -> u32
 
 /// One batch, counted from 0: the sync word and its slots.
 pub(crate) fn batch(capcode: Capcode, text: &[u8], number: usize) -> [u32; BATCH_WORDS]
-    requires short { length text.now ≤ 400 }
+    requires fits { Fits Alpha text.now }
     requires within { number < batches_of_one (frame (alpha_page capcode text.now)) (length (run (alpha_page capcode text.now))) }
     ensures { result ≡ SYNC ∷ take 16 (drop (16 * number) (slots_of_one (alpha_page capcode text.now))) }
 {
@@ -98,7 +99,7 @@ mod tests {
 
     /// Whether the transmission of this page has these batches, and no others.
     fn has_batches(capcode: u32, text: &[u8], batches: &[[u32; BATCH_WORDS]]) -> bool
-        requires { length text.now ≤ 400 }
+        requires { Fits Alpha text.now }
     {
         let Some(capcode) = Capcode::of(capcode) else {
             return false;

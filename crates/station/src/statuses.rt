@@ -19,11 +19,11 @@ pub enum Status {
     OutFault,
     /// The input failed.
     InputFault,
-    /// The input is not one block with end ETX, a body of at most 250 characters, a right trailer and two printable fields.
+    /// The input is not one block with the end ETX and a body of at most 250 characters.
     NotBlock,
-    /// The block's sum is wrong.
+    /// The block's trailer is wrong.
     BadSum,
-    /// The block's text has no value or doesn't fit.
+    /// The block's content hasn't two fields with values, or the text doesn't fit.
     BadText,
     /// The air file is too long.
     TooLong,

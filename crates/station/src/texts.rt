@@ -4,6 +4,7 @@ ghost use Rattle.std.specs.Prelude.{ℕ, ◌≤◌, List, length, take, MatchOpt
 ghost use Rattle.station.specs.LoneBlock.{HasText};
 
 use codeword::Function;
+use page_text::fits;
 use tap_block::{fields, unescape};
 
 /// Writes the text of a content to the front of `into`, and answers its length in characters: the value of its second field. None
@@ -25,12 +26,4 @@ pub(crate) fn read_text(content: &[u8], into: &mut [u8]) -> Option<usize>
         return None;
     }
     Some(size)
-}
-
-ghost use Rattle.std.specs.Prelude.{◌↔◌, IsOk};
-ghost use Rattle.page_text.specs.Fits.{Fits};
-fn fits(function: Function, text: &[u8]) -> Result<(), u8>
-    ensures { IsOk result ↔ Fits function text.now }
-{
-    if text.len() > 7 { Ok(()) } else { let _ = function; Err(1) }
 }

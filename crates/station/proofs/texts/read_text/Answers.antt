@@ -2,7 +2,7 @@ use Rattle.std.proofs.Common.{sym, ◌∙◌, ap, subst, arith, length, length-a
 use Rattle.std.specs.Result.{is_err, is_ok}
 use Rattle.tap_block.specs.Chars.{cr}
 use Rattle.tap_block.specs.Fields.{HasFault, HasValue}
-use Rattle.station.proofs.ReadTexts.{failed_with, held_with, no_first, no_fit, no_second_value}
+use Rattle.station.proofs.ReadTexts.{failed_with, held_with, no_first, no_fit, no_second_value, not_ok, ok_of}
 use Rattle.station.proofs.texts.read_text.Goals as goal
 
 pub returns-then-is_err : goal.returns-then-is_err
@@ -17,7 +17,7 @@ returns-in_default-unescape c text h =
 pub returns-then-is_err-2 : goal.returns-then-is_err-2
 returns-then-is_err-2 c text h =
     no_fit c.args.content.now c.in-Some.id.now c.in-Some.text.now (take c.in-Ok.size c.unescape-2.new.into) text c.in-Some.ensures c.in-Ok.ensures.value
-    (λ fits. ?) h
+    (λ fits. not_ok c.fits.result (sym c.is_err-2.ensures.value ∙ c.if-is_err-2.true) (c.fits.ensures.fits.1 fits)) h
 
 pub returns : goal.returns
 returns c =
@@ -25,5 +25,5 @@ returns c =
     (record {
        id = take id.0 c.unescape.new.into;
        fields = record { first = c.in-Some.id.now; second = c.in-Some.text.now; parts = c.in-Some.ensures; id_is = id.1; text_is = c.in-Ok.ensures.value };
-       fits = ?;
+       fits = c.fits.ensures.fits.0 (ok_of c.fits.result (sym c.is_err-2.ensures.value ∙ c.if-is_err-2.false));
      }, omega (arith, c.in-Ok.ensures.fits, ap length c.in-Some.ensures.form, length-append c.in-Some.id.now (cr ∷ (c.in-Some.text.now ++ cr ∷ [])), length-append c.in-Some.text.now (cr ∷ [])))
