@@ -104,32 +104,118 @@ fn words_that_are_no_command_are_usage(rt: HostRuntime) -> Result<(), Fail> {
     Ok(())
 }
 
+/// Checks that `one` refuses these inputs with this status, its code and its line, and writes nothing.
+fn refused(
+    alloc: Global,
+    table: &[&[u8]],
+    expected: Status,
+    code: u8,
+    line: &[u8],
+) -> Result<bool, Fail> {
+    for block in table {
+        let mut input = MemorySource::new(alloc, block, 300, &[])?;
+        let mut out = MemorySink::new(alloc, 140, &[])?;
+        let mut err = MemorySink::new(alloc, 100, &[])?;
+        let status = ran(alloc, &["one", "8"], &mut input, &mut out, &mut err)?;
+        if status != expected || status.code() != code {
+            return Ok(false);
+        }
+        if !out.bytes().is_empty() || err.bytes() != line {
+            return Ok(false);
+        }
+    }
+    Ok(true)
+}
+
 #[test]
 fn other_input_is_no_block(rt: HostRuntime) -> Result<(), Fail> {
-    let table: [&[u8]; 12] = [
+    let table: [&[u8]; 10] = [
         b"",
+        b"\x02",
         b"\x02123\rABC\r\x0317;\rx",
         b"x\x02123\rABC\r\x0317;\r",
         b"\x02123\rABC\r\x0317;",
+        b"\x02123\rABC\r\x1718?\r",
+        b"\x02123\rABC\r\x1F190\r",
+        b"\x02123\rABC\r\x02123\rABC\r\x0317;\r",
+        b"\x03\x0317;\r",
+        b"\r",
+    ];
+    let all = refused(
+        rt.alloc(),
+        &table,
+        Status::NotBlock,
+        8,
+        b"pocsag: not a block\n",
+    )?;
+    assert!(rt; all);
+    Ok(())
+}
+
+/// A wrong trailer comes before a text that isn't there.
+#[test]
+fn a_wrong_trailer_is_a_wrong_sum(rt: HostRuntime) -> Result<(), Fail> {
+    let table: [&[u8]; 7] = [
         b"\x02123\rABC\r\x0317<\r",
         b"\x02123\rABC\r\x0317;\n",
-        b"\x02123\rABC\x0316>\r",
-        b"\x02123\rABC\r\x1718?\r",
-        b"\x02123\rABC\r\x02123\rABC\r\x032?3\r",
-        b"\x021\rA\x1AM\r\x030?8\r",
-        b"\x02\r\r\r\x0302<\r",
-        b"\x03\x0317;\r",
+        b"\x02123\rABC\r\x03\r",
+        b"\x02123\rABC\r\x0317\r",
+        b"\x02123\rABC\r\x03017;",
+        b"\x02123\rABC\x0317;\r",
+        b"\x02\x03000\r",
     ];
-    for block in table {
-        let mut input = MemorySource::new(rt.alloc(), block, 300, &[])?;
-        let mut out = MemorySink::new(rt.alloc(), 140, &[])?;
-        let mut err = MemorySink::new(rt.alloc(), 100, &[])?;
-        let status = ran(rt.alloc(), &["one", "8"], &mut input, &mut out, &mut err)?;
-        assert_eq!(rt; status, Status::NotBlock, "{block:?}");
-        assert_eq!(rt; status.code(), 8);
-        assert_eq!(rt; out.bytes().len(), 0);
-        assert_eq!(rt; err.bytes(), b"pocsag: not a block\n".as_slice());
+    let all = refused(
+        rt.alloc(),
+        &table,
+        Status::BadSum,
+        9,
+        b"pocsag: wrong sum\n",
+    )?;
+    assert!(rt; all);
+    Ok(())
+}
+
+/// No two fields, a field without a value, and a text that no alphanumeric page carries.
+#[test]
+fn a_content_without_a_text(rt: HostRuntime) -> Result<(), Fail> {
+    let table: [&[u8]; 11] = [
+        b"\x02\x03005\r",
+        b"\x02123\rABC\x0316>\r",
+        b"\x02\r\r\r\x0302<\r",
+        b"\x02123\r\rABC\r\x03188\r",
+        b"\x02123\rA\x7F\r\x03175\r",
+        b"\x021\rA\nB\r\x030==\r",
+        b"\x02123\rA\x1A\r\x03110\r",
+        b"\x02123\rA\x1A!\r\x03131\r",
+        b"\x021\x1A\rA\r\x030:;\r",
+        b"\x021\x01\rA\r\x03092\r",
+        b"\x021\rA\x1AA\r\x030><\r",
+    ];
+    let all = refused(rt.alloc(), &table, Status::BadText, 10, b"pocsag: text\n")?;
+    assert!(rt; all);
+    Ok(())
+}
+
+/// A letter and a carriage return, which the block spells by SUB.
+#[test]
+fn a_pair_is_one_character(rt: HostRuntime) -> Result<(), Fail> {
+    let mut input = MemorySource::new(rt.alloc(), b"\x021\rA\x1AM\r\x030?8\r", 4, &[])?;
+    let mut out = MemorySink::new(rt.alloc(), 140, &[])?;
+    let mut err = MemorySink::new(rt.alloc(), 0, &[])?;
+    let status = ran(rt.alloc(), &["one", "8"], &mut input, &mut out, &mut err)?;
+    let mut air = Vec::new(rt.alloc());
+    for _ in 0..72 {
+        air.push(0xAA)?;
     }
+    for word in [0x7CD2_15D8, 0x0000_3B49, 0xC1B0_04B6u32] {
+        air.extend_from_slice(&word.to_be_bytes())?;
+    }
+    for _ in 0..14 {
+        air.extend_from_slice(&0x7A89_C197u32.to_be_bytes())?;
+    }
+    assert_eq!(rt; status, Status::Done);
+    assert_eq!(rt; out.bytes(), air.as_slice());
+    assert_eq!(rt; err.bytes().len(), 0);
     Ok(())
 }
 
