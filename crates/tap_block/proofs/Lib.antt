@@ -1,6 +1,7 @@
 pub mod First
 pub mod OneReading
 pub mod Exists
+pub mod Fronts
 pub mod Grows
 pub mod Parts
 pub mod Values
