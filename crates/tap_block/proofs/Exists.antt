@@ -22,47 +22,58 @@ abbrev LineCut : List ℕ → Option (List ℕ × List ℕ) → Type 0
 LineCut x None = Unit {0}
 LineCut x (Some (l, next)) = (x ≡ l ++ cr ∷ next) × AllByRecursion (λ c. c ≢ cr) l
 
+-- what a trailer at the front is
 abbrev pub TrailerCut : List ℕ → Option (List ℕ × List ℕ) → Type 0
 TrailerCut x None = Unit {0}
 TrailerCut x (Some (t, next)) = (x ≡ t ++ next) × IsTrailer t
 
+-- what a piece at the front is
 abbrev pub Cut : Mode → List ℕ → Option (Piece × List ℕ) → Type 0
 Cut mode x None = Unit {0}
 Cut mode x (Some (p, next)) = (x ≡ text p ++ next) × IsPieceBefore mode p next
 
+-- one character more before the line
 longer_sound : (c : ℕ) (x : List ℕ) (o : Option (List ℕ × List ℕ)) → c ≢ cr → LineCut x o → LineCut (c ∷ x) (longer c o)
 longer_sound c x None n h = tt
 longer_sound c x (Some (l, next)) n h = (ap (λ z. c ∷ z) h.0, (n, h.1))
 
+-- the line at the front is one
 line_sound : (x : List ℕ) → LineCut x (line_cut x)
 line_sound [] = tt
 line_sound (c ∷ x) = by_test (LineCut (c ∷ x)) c cr _ _ (λ e. (ap (λ k. k ∷ x) e, tt)) (λ n. longer_sound c x (line_cut x) n (line_sound x))
 
+-- what is cut at the first CR is a line and what is behind it
 pub line_is : (x l next : List ℕ) → line_cut x ≡ Some (l, next) → (x ≡ l ++ cr ∷ next) × AllByRecursion (λ c. c ≢ cr) l
 line_is x l next e = let P : Option (List ℕ × List ℕ) → Type 0 = λ o. LineCut x o in subst P e (line_sound x)
 
+-- a trailer of four characters
 four_sound : (a b c : ℕ) (x : List ℕ) → a ≢ cr → b ≢ cr → c ≢ cr → TrailerCut (a ∷ b ∷ c ∷ x) (four a b c x)
 four_sound a b c [] na nb nc = tt
 four_sound a b c (d ∷ x) na nb nc = (refl, (na, nb, nc))
 
+-- a trailer of three characters or four
 three_sound : (a b : ℕ) (x : List ℕ) → a ≢ cr → b ≢ cr → TrailerCut (a ∷ b ∷ x) (three a b x)
 three_sound a b [] na nb = tt
 three_sound a b (c ∷ x) na nb = by_test (TrailerCut (a ∷ b ∷ c ∷ x)) c cr _ _ (λ e. (refl, (na, nb, e))) (λ n. four_sound a b c x na nb n)
 
+-- a trailer of two characters or more
 two_sound : (a : ℕ) (x : List ℕ) → a ≢ cr → TrailerCut (a ∷ x) (two a x)
 two_sound a [] na = tt
 two_sound a (b ∷ x) na = by_test (TrailerCut (a ∷ b ∷ x)) b cr _ _ (λ e. (refl, (na, e))) (λ n. three_sound a b x na n)
 
+-- the trailer at the front is one
 pub trailer_sound : (x : List ℕ) → TrailerCut x (trailer_cut x)
 trailer_sound [] = tt
 trailer_sound (a ∷ x) = by_test (TrailerCut (a ∷ x)) a cr _ _ (λ e. (refl, e)) (λ n. two_sound a x n)
 
+-- a block from its end on
 after_sound : (b x : List ℕ) (c : ℕ) (e : End) (o : Option (List ℕ × List ℕ)) → IsBody b → c ≡ end_char e → TrailerCut x o
     → Cut AfterLogon ((stx ∷ b) ++ c ∷ x) (after_trailer b e o)
 after_sound b x c e None body p h = tt
 after_sound b x c e (Some (t, next)) body p h =
     (ap (λ z. (stx ∷ b) ++ c ∷ z) h.0 ∙ ap (λ k. (stx ∷ b) ++ k ∷ (t ++ next)) p ∙ sym (append_assoc (stx ∷ b) (end_char e ∷ t) next), (body, h.1))
 
+-- a block or a dropped body from its STX on
 body_sound : (b x : List ℕ) → IsBody b → Cut AfterLogon ((stx ∷ b) ++ x) (body_cut b x)
 body_sound b [] body = tt
 body_sound b (c ∷ x) body =
@@ -74,10 +85,12 @@ body_sound b (c ∷ x) body =
     (λ n31. subst (λ z. Cut AfterLogon (stx ∷ z) (body_cut (b ++ c ∷ []) x)) (append_assoc b (c ∷ []) x)
     (body_sound (b ++ c ∷ []) x (all_push IsBodyChar b c body (n2, n3, n23, n31)))))))
 
+-- an EOT and what is behind it
 eot_sound : (x : List ℕ) → Cut AfterLogon (eot ∷ x) (eot_cut x)
 eot_sound [] = tt
 eot_sound (c ∷ x) = by_test (Cut AfterLogon (eot ∷ c ∷ x)) c cr _ _ (λ e. (ap (λ k. eot ∷ k ∷ x) e, tt)) (λ n. (refl, n))
 
+-- the line at the front is a piece
 after_line_sound : (x : List ℕ) (o : Option (List ℕ × List ℕ)) → LineCut x o → Cut BeforeLogon x (after_line o)
 after_line_sound x None h = tt
 after_line_sound x (Some (l, next)) h = (h.0 ∙ sym (append_assoc l (cr ∷ []) next), h.1)
@@ -101,6 +114,7 @@ text_some bye = omega arith
 text_some (dropped b) = omega arith
 text_some (block b e t) = omega arith
 
+-- what is behind a piece is shorter
 shorter : (p : Piece) (x next : List ℕ) (n : ℕ) → x ≡ text p ++ next → length x ≤ suc n → length next ≤ n
 shorter p x next n e h = let k = ap length e ∙ length-append (text p) next in let m = text_some p in omega arith
 

@@ -8,22 +8,27 @@ use Rattle.tap_block.specs.Chars.{stx, etx, eot, cr, etb, us, end_char}
 pub use Rattle.tap_block.specs.Fields.{longer, line_cut}
 use Rattle.tap_block.specs.Reading.{Mode, BeforeLogon, AfterLogon, Piece, line, skipped, lone_eot, bye, dropped, block, text, IsBody, IsTrailer, Begins, IsPieceBefore, HasNoPiece}
 
+-- the fourth character of a trailer
 abbrev pub four : ℕ → ℕ → ℕ → List ℕ → Option (List ℕ × List ℕ)
 four a b c [] = None
 four a b c (d ∷ x) = Some (a ∷ b ∷ c ∷ d ∷ [], x)
 
+-- its third character
 abbrev pub three : ℕ → ℕ → List ℕ → Option (List ℕ × List ℕ)
 three a b [] = None
 three a b (c ∷ x) = cond (c == cr) (Some (a ∷ b ∷ c ∷ [], x)) (four a b c x)
 
+-- its second character
 abbrev pub two : ℕ → List ℕ → Option (List ℕ × List ℕ)
 two a [] = None
 two a (b ∷ x) = cond (b == cr) (Some (a ∷ b ∷ [], x)) (three a b x)
 
+-- the trailer at the front, and what is behind it
 abbrev pub trailer_cut : List ℕ → Option (List ℕ × List ℕ)
 trailer_cut [] = None
 trailer_cut (a ∷ x) = cond (a == cr) (Some (a ∷ [], x)) (two a x)
 
+-- the block that a trailer ends
 abbrev pub after_trailer : List ℕ → End → Option (List ℕ × List ℕ) → Option (Piece × List ℕ)
 after_trailer b e None = None
 after_trailer b e (Some (t, x)) = Some (block b e t, x)
@@ -38,14 +43,17 @@ body_cut b (c ∷ x) =
     (cond (c == us) (after_trailer b Us (trailer_cut x))
     (body_cut (b ++ c ∷ []) x))))
 
+-- behind an EOT
 abbrev pub eot_cut : List ℕ → Option (Piece × List ℕ)
 eot_cut [] = None
 eot_cut (c ∷ x) = cond (c == cr) (Some (bye, x)) (Some (lone_eot, c ∷ x))
 
+-- the piece of a line
 abbrev pub after_line : Option (List ℕ × List ℕ) → Option (Piece × List ℕ)
 after_line None = None
 after_line (Some (l, x)) = Some (line l, x)
 
+-- the first piece, and what is behind it
 abbrev pub first_piece : Mode → List ℕ → Option (Piece × List ℕ)
 first_piece BeforeLogon x = after_line (line_cut x)
 first_piece AfterLogon [] = None
@@ -55,6 +63,7 @@ first_piece AfterLogon (c ∷ x) = cond (c == stx) (body_cut [] x) (cond (c == e
 pub not_equal : (a b : ℕ) → a ≢ b → (a == b) ≡ false
 not_equal a b h = grind (arith, nat_tests)
 
+-- the same where they are equal
 pub equal : (a b : ℕ) → a ≡ b → (a == b) ≡ true
 equal a b h = grind (arith, nat_tests)
 
@@ -72,10 +81,12 @@ pub line_none : (r : List ℕ) → AllByRecursion (λ c. c ≢ cr) r → line_cu
 line_none [] h = refl
 line_none (c ∷ r) h = rw (not_equal c cr h.0, line_none r h.1) refl
 
+-- a line before a CR is found
 pub line_found : (l next : List ℕ) → AllByRecursion (λ c. c ≢ cr) l → line_cut (l ++ cr ∷ next) ≡ Some (l, next)
 line_found [] next h = refl
 line_found (c ∷ l) next h = rw (not_equal c cr h.0, line_found l next h.1) refl
 
+-- a trailer is found
 pub trailer_found : (t next : List ℕ) → IsTrailer t → trailer_cut (t ++ next) ≡ Some (t, next)
 trailer_found [] next h = elim h [ ]
 trailer_found (a ∷ []) next h = rw (equal a cr h) refl
@@ -84,21 +95,25 @@ trailer_found (a ∷ b ∷ c ∷ []) next h = rw (not_equal a cr h.0, not_equal 
 trailer_found (a ∷ b ∷ c ∷ d ∷ []) next h = rw (not_equal a cr h.0, not_equal b cr h.1, not_equal c cr h.2) refl
 trailer_found (a ∷ b ∷ c ∷ d ∷ e ∷ t) next h = elim h [ ]
 
+-- a body is gone over
 pub body_skipped : (b0 b y : List ℕ) → IsBody b → body_cut b0 (b ++ y) ≡ body_cut (b0 ++ b) y
 body_skipped b0 [] y h = rw append-nil refl
 body_skipped b0 (c ∷ b) y h =
     rw (not_equal c stx h.0.0, not_equal c etx h.0.1, not_equal c etb h.0.2, not_equal c us h.0.3)
     (body_skipped (b0 ++ c ∷ []) b y h.1 ∙ ap (λ z. body_cut z y) (append_assoc b0 (c ∷ []) b))
 
+-- a block is found from its end on
 end_found : (b t next : List ℕ) (e : End) → IsTrailer t → body_cut b (end_char e ∷ (t ++ next)) ≡ Some (block b e t, next)
 end_found b t next Etx h = rw (trailer_found t next h) refl
 end_found b t next Etb h = rw (trailer_found t next h) refl
 end_found b t next Us h = rw (trailer_found t next h) refl
 
+-- a dropped body is found
 dropped_found : (b next : List ℕ) → Begins (λ c. c ≡ stx) next → body_cut b next ≡ Some (dropped b, next)
 dropped_found b [] h = elim h [ ]
 dropped_found b (c ∷ x) h = rw (equal c stx h) refl
 
+-- an EOT without CR is found
 lone_found : (next : List ℕ) → Begins (λ c. c ≢ cr) next → eot_cut next ≡ Some (lone_eot, next)
 lone_found [] h = elim h [ ]
 lone_found (c ∷ x) h = rw (not_equal c cr h) refl
@@ -118,5 +133,6 @@ found BeforeLogon (dropped b) next h = elim h [ ]
 found BeforeLogon (block b e t) next h = elim h [ ]
 found AfterLogon (line l) next h = elim h [ ]
 
+-- where none is found there is none
 pub no_piece : (mode : Mode) (r : List ℕ) → first_piece mode r ≡ None → HasNoPiece mode r
 no_piece mode r none p next e h = let f = found mode p next h in cc

@@ -1,21 +1,17 @@
 -- A step on what is held reads on by one character.
-use Rattle.std.proofs.Common.{◌≡◌, ◌≢◌, ℕ, suc, zero, ◌+◌, ◌%◌, ◌<◌, ◌≤◌, ◌==◌, cond, Bool, true, false, ◌&&◌, ◌||◌, not, List, [], ◌∷◌, ◌++◌, length, take, refl, ap, sym, ◌∙◌, subst, append_assoc, append-nil, arith, Option, Some, None, ◌⊎◌, inl, inr, min, sum, length-append}
-use Rattle.std.specs.List.{AllByRecursion, filter_map}
+use Rattle.std.proofs.Common.{◌≡◌, ◌≢◌, ℕ, ◌+◌, ◌%◌, ◌==◌, cond, Bool, true, false, not, List, [], ◌∷◌, ◌++◌, length, take, refl, ap, sym, ◌∙◌, subst, append_assoc, append-nil, arith, Option, Some, None, inl, inr, length-append}
 use Rattle.std.specs.Option.{option_to_list, option_map}
-use Rattle.std.proofs.lemmas.Bool.Decides.{eqb_tells, leb_tells, nat_tests}
-use Rattle.std.proofs.lemmas.List.{take-append-le, take_all, length-take-le}
-use Rattle.std.proofs.lemmas.List.Sums.{sum_by-append}
-use Rattle.std.proofs.lemmas.Bool.{cases_lt}
+use Rattle.std.proofs.lemmas.Bool.Decides.{eqb_tells}
 use Rattle.std.proofs.lemmas.List.Elements.{filter-append, filter_map-append}
-use Rattle.std.proofs.Common.{nat_lt, add-zero, filter}
 use Rattle.tap_block.specs.declared.ends.End.{End}
 use Rattle.tap_block.specs.declared.ends.End.TheVariants.{Etx, Etb, Us}
-use Rattle.tap_block.specs.Chars.{stx, etx, eot, cr, lf, etb, us, end_char, sum_of}
-use Rattle.tap_block.specs.Reading.{Mode, BeforeLogon, AfterLogon, Piece, line, skipped, lone_eot, bye, dropped, block, text, IsBodyChar, IsBody, IsTrailer, Begins, IsPieceBefore, HasNoPiece, Reads, mode_after, mode_at, mode_by, items_of, item_of, Entry, empty_line, logon, wrong_line, a_block, a_bye, line_item, without_lf, is_right, is_password, is_logon}
-use Rattle.tap_block.specs.Brief.{Brief, in_line, between, after_eot, in_body, in_trailer, Held, IsKept, IsTrailerFront, InBody, InTrailer, IsBrief, StandsFor, answer_of, BodyIs, ReadsOn}
-use Rattle.tap_block.specs.Step.{Stepped, silent, brief_by, push_within, count_within, begin_item, end_body, more_body, is_whole, end_block, step_by, step}
+use Rattle.tap_block.specs.Chars.{stx, etx, eot, cr, lf, etb, us, end_char}
+use Rattle.tap_block.specs.Reading.{Mode, BeforeLogon, AfterLogon, Piece, line, skipped, lone_eot, bye, dropped, block, text, IsBody, IsTrailer, Reads, mode_at, mode_by, items_of, item_of, Entry, empty_line, logon, wrong_line, a_block, a_bye, line_item, without_lf, is_right, is_logon}
+use Rattle.tap_block.specs.Brief.{Brief, in_line, between, after_eot, in_body, in_trailer, Held, IsTrailerFront, InBody, InTrailer, IsBrief, StandsFor, answer_of, BodyIs, ReadsOn}
+use Rattle.tap_block.specs.Step.{Stepped, silent, brief_by, push_within, begin_item, end_body, more_body, is_whole, end_block, step_by, step}
+use Rattle.tap_block.proofs.Fronts.{kept_push, line_short, sum_push, take_push}
 use Rattle.tap_block.proofs.OneReading.{goes_on, mode_at-append}
-use Rattle.tap_block.proofs.First.{first_piece, line_cut, trailer_cut, body_cut, after_trailer, no_piece, not_equal, equal, body_skipped, by_test, line_none, all_push}
+use Rattle.tap_block.proofs.First.{first_piece, trailer_cut, body_cut, no_piece, not_equal, equal, body_skipped, by_test, line_none, all_push}
 
 -- the beginning of a trailer is no trailer
 trailer_none : (t : List ℕ) → IsTrailerFront t → trailer_cut t ≡ None
@@ -25,14 +21,17 @@ trailer_none (a ∷ b ∷ []) h = rw (not_equal a cr h.0.0, not_equal b cr h.0.1
 trailer_none (a ∷ b ∷ c ∷ []) h = rw (not_equal a cr h.0.0, not_equal b cr h.0.1.0, not_equal c cr h.0.1.1.0) refl
 trailer_none (a ∷ b ∷ c ∷ d ∷ t) h = absurd (omega (arith, h.1))
 
+-- a body without its end is no piece
 body_none : (b : List ℕ) → IsBody b → body_cut [] b ≡ None
 body_none b h = sym (ap (body_cut []) (append-nil b)) ∙ body_skipped [] b [] h
 
+-- nor is one without a whole trailer
 end_none : (b t : List ℕ) (e : End) → IsTrailerFront t → body_cut b (end_char e ∷ t) ≡ None
 end_none b t Etx h = rw (trailer_none t h) refl
 end_none b t Etb h = rw (trailer_none t h) refl
 end_none b t Us h = rw (trailer_none t h) refl
 
+-- no form of a rest has a piece at its front
 pub brief_none : (mode : Mode) (r kept : List ℕ) (brief : Brief) → IsBrief mode r kept brief → first_piece mode r ≡ None
 brief_none BeforeLogon r kept (in_line l) h = rw (line_none r h.1) refl
 brief_none AfterLogon r kept between h = ap (first_piece AfterLogon) h
@@ -45,6 +44,7 @@ brief_none BeforeLogon r kept after_eot h = elim h [ ]
 brief_none BeforeLogon r kept (in_body size total) h = elim h [ ]
 brief_none BeforeLogon r kept (in_trailer size total e t) h = elim h [ ]
 
+-- nor has the empty list
 none_nil : (mode : Mode) → first_piece mode [] ≡ None
 none_nil BeforeLogon = refl
 none_nil AfterLogon = refl
@@ -75,6 +75,7 @@ quiet mode y s h = record {
   password_is = refl;
 }
 
+-- the step between items
 begun : (s : Held) (c : ℕ) → Grown s.password AfterLogon (c ∷ []) (silent (begin_item s c))
 begun s c =
     by_test (λ h. Grown s.password AfterLogon (c ∷ []) (silent h)) c stx _ _
@@ -94,57 +95,6 @@ begun s c =
       password_is = refl;
     }))
 
--- fronts and counts that stop at a limit
-pub take_push : (n : ℕ) (b : List ℕ) (c : ℕ) → push_within n (take n b) c ≡ take n (b ++ c ∷ [])
-take_push n b c = elim (cases_lt (length b) n) [ inl h ↦ short n b c h | inr h ↦ long n b c h ]
-  where
-    short : (n : ℕ) (b : List ℕ) (c : ℕ) → length b < n → push_within n (take n b) c ≡ take n (b ++ c ∷ [])
-    short n b c h =
-        let e : take n b ≡ b = take_all n b (omega arith) in
-        let f : take n (b ++ c ∷ []) ≡ b ++ c ∷ [] = take_all n (b ++ c ∷ []) (simp length-append (omega arith)) in
-        let t : nat_lt (length b) n ≡ true = grind (arith, nat_tests) in
-        rw (e, f, t) refl
-
-    long : (n : ℕ) (b : List ℕ) (c : ℕ) → n ≤ length b → push_within n (take n b) c ≡ take n (b ++ c ∷ [])
-    long n b c h =
-        let e : take n (b ++ c ∷ []) ≡ take n b = take-append-le n b (c ∷ []) h in
-        let k : length (take n b) ≡ n = length-take-le n b h in
-        let t : nat_lt n n ≡ false = grind (arith, nat_tests) in
-        rw (e, k, t) refl
-
-pub count_push : (n k : ℕ) → count_within n (min k n) ≡ min (k + 1) n
-count_push n k = grind (arith, nat_tests)
-
-sum_push : (x : List ℕ) (c : ℕ) → (sum_of x + c) % 4096 ≡ sum_of (x ++ c ∷ [])
-sum_push x c = let e : sum (x ++ c ∷ []) ≡ sum x + c = omega (arith, sum_by-append (λ x. x) x (c ∷ [])) in
-    rw e (mod_sum (sum x) c)
-  where
-    mod_sum : (a c : ℕ) → (a % 4096 + c) % 4096 ≡ (a + c) % 4096
-    mod_sum a c = omega arith
-
-kept_push : (kept : List ℕ) (size : ℕ) (b : List ℕ) (c : ℕ) → IsKept kept size b → IsKept (push_within 250 kept c) (count_within 251 size) (b ++ c ∷ [])
-kept_push kept size b c h =
-    (rw h.0 (take_push 250 b c), rw h.1 (count_push 251 (length b) ∙ ap (λ k. min k 251) (sym (length-append b (c ∷ [])))))
-
--- more than six characters are no password
-word_long : (password : Option (List ℕ)) (word : List ℕ) → 7 ≤ length word → is_password password word ≡ false
-word_long None word h = rw (not_equal (length word) 0 (omega arith), not_equal (length word) 6 (omega arith)) refl
-word_long (Some p) word h = rw (not_equal (length word) 6 (omega arith)) refl
-
-word_short : (password : Option (List ℕ)) (word : List ℕ) → is_password password word ≡ is_password password (take 7 word)
-word_short password word = elim (cases_lt (length word) 7) [
-  | inl h ↦ (let e : take 7 word ≡ word = take_all 7 word (omega arith) in rw e refl)
-  | inr h ↦ (let k : 7 ≤ length (take 7 word) = omega (arith, length-take-le 7 word h) in word_long password word h ∙ sym (word_long password (take 7 word) k))
-]
-
--- a line's item goes by its first eleven characters
-line_short : (password : Option (List ℕ)) (l : List ℕ) → line_item password l ≡ line_item password (take 11 l)
-line_short password [] = refl
-line_short password (a ∷ []) = refl
-line_short password (a ∷ b ∷ []) = refl
-line_short password (a ∷ b ∷ c ∷ []) = refl
-line_short password (a ∷ b ∷ c ∷ d ∷ word) = rw (word_short password word) refl
-
 -- a whole trailer
 whole_cr : (t : List ℕ) (c : ℕ) → IsTrailerFront t → c ≡ cr → IsTrailer (t ++ c ∷ [])
 whole_cr [] c h e = e
@@ -153,6 +103,7 @@ whole_cr (a ∷ b ∷ []) c h e = (h.0.0, h.0.1.0, e)
 whole_cr (a ∷ b ∷ d ∷ []) c h e = (h.0.0, h.0.1.0, h.0.1.1.0)
 whole_cr (a ∷ b ∷ d ∷ f ∷ t) c h e = absurd (omega (arith, h.1))
 
+-- a fourth character makes a trailer whole
 whole_four : (t : List ℕ) (c : ℕ) → IsTrailerFront t → length t ≡ 3 → IsTrailer (t ++ c ∷ [])
 whole_four [] c h e = absurd (omega (arith, e))
 whole_four (a ∷ []) c h e = absurd (omega (arith, e))
@@ -177,6 +128,7 @@ block_ends s rest b size total c e t h w = record {
   ends : rest ++ c ∷ [] ≡ text (block b e (t ++ c ∷ [])) ++ []
   ends = ap (λ z. z ++ c ∷ []) h.form ∙ append_assoc (stx ∷ b) (end_char e ∷ t) (c ∷ []) ∙ sym (append-nil _)
 
+-- any step in a trailer
 trailer_step : (s : Held) (rest b : List ℕ) (size total c : ℕ) (e : End) (t : List ℕ) → InTrailer rest s.kept size total e t b
     → Grown s.password AfterLogon (rest ++ c ∷ []) (step_by s (in_trailer size total e t) c)
 trailer_step s rest b size total c e t h =
@@ -275,6 +227,7 @@ begin_mode wrong_line kept = (refl, tt)
 begin_mode (a_block b e right) kept = (refl, tt)
 begin_mode a_bye kept = (refl, tt)
 
+-- of a line no body is lent
 line_no_body : (password : Option (List ℕ)) (l kept : List ℕ) → BodyIs (Some (line_item password l)) kept
 line_no_body password [] kept = tt
 line_no_body password (c ∷ l) kept = no_body (is_logon password (c ∷ l))
@@ -315,6 +268,7 @@ line_step s rest l c h =
       password_is = refl;
     }
 
+-- the step in any place
 pub grows : (s : Held) (mode : Mode) (rest : List ℕ) (brief : Brief) (c : ℕ) → IsBrief mode rest s.kept brief
     → Grown s.password mode (rest ++ c ∷ []) (step_by s brief c)
 grows s BeforeLogon rest (in_line l) c h = line_step s rest l c h
@@ -358,6 +312,7 @@ stands_on from s x items c h =
     joined : (ps new : List Piece) (more : List Entry) → items ≡ items_of s.password ps → items_of s.password new ≡ more → items ++ more ≡ items_of s.password (ps ++ new)
     joined ps new more e f = rw (filter_map-append (item_of s.password) ps new) (rw (e, f) refl)
 
+-- the password is the same after a step
 abbrev Same : Held → Stepped → Type 0
 Same s z = z.held.password ≡ s.password
 

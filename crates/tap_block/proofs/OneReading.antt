@@ -11,6 +11,7 @@ same_piece mode p q n m hp hq e =
     let c = ap (λ x. first_piece mode x) e in
     cc
 
+-- two readings of one list are one
 pub at_most_one : (password : Option (List ℕ)) (mode : Mode) (ps qs : List Piece) (r s x : List ℕ) → Reads password mode ps r x → Reads password mode qs s x → (ps ≡ qs) × (r ≡ s)
 at_most_one password mode [] [] r s x h k = (refl, sym h.0 ∙ k.0)
 at_most_one password mode [] (q ∷ qs) r s x h k = absurd (h.1 q k.0 (sym h.0 ∙ k.1) k.2)
@@ -29,6 +30,7 @@ begins_more : (P : ℕ → Type 0) (x y : List ℕ) → Begins P x → Begins P 
 begins_more P [] y h = elim h [ ]
 begins_more P (c ∷ x) y h = h
 
+-- a piece may stand before a longer list too
 still : (mode : Mode) (p : Piece) (x y : List ℕ) → IsPieceBefore mode p x → IsPieceBefore mode p (x ++ y)
 still BeforeLogon (line l) x y h = h
 still AfterLogon (skipped c) x y h = h
@@ -50,6 +52,7 @@ goes_on password mode [] new r s x y h k = rw h.0 k
 goes_on password mode (p ∷ ps) new r s x y h k =
     (h.0 ++ y, ap (λ z. z ++ y) h.1 ∙ append_assoc (text p) h.0 y, still mode p h.0 y h.2, goes_on password (mode_after password p mode) ps new r s h.0 y h.3 k)
 
+-- the mode after pieces and further pieces
 pub mode_at-append : (password : Option (List ℕ)) (mode : Mode) (ps new : List Piece) → mode_at password mode (ps ++ new) ≡ mode_at password (mode_at password mode ps) new
 mode_at-append password mode [] new = refl
 mode_at-append password mode (p ∷ ps) new = mode_at-append password (mode_after password p mode) ps new

@@ -6,12 +6,15 @@ use Rattle.tap_block.specs.Chars.{cr}
 use Rattle.tap_block.specs.Fields.{AreParts, line_cut}
 use Rattle.tap_block.proofs.First.{line_found, line_none}
 
+-- the first part is what is cut at the first CR
 parts_cut : (x a b : List ℕ) → AreParts x a b → line_cut x ≡ Some (a, b ++ cr ∷ [])
 parts_cut x a b h = ap line_cut h.form ∙ line_found a (b ++ cr ∷ []) h.no_cr_first
 
+-- what stands before a first CR is cut there
 line_cut_is : (x l next : List ℕ) → x ≡ l ++ cr ∷ next → AllByRecursion (λ c. c ≢ cr) l → line_cut x ≡ Some (l, next)
 line_cut_is x l next e h = ap line_cut e ∙ line_found l next h
 
+-- what is behind the first CR is one list
 same_rest : (x l next m more : List ℕ) → line_cut x ≡ Some (l, next) → line_cut x ≡ Some (m, more) → next ≡ more
 same_rest x l next m more e f =
     let g : ◌≡◌ {A = List ℕ × List ℕ} (l, next) (m, more) = cc in ap (λ (z : List ℕ × List ℕ). z.1) g

@@ -16,24 +16,31 @@ content id text = id ++ cr ∷ (text ++ cr ∷ [])
 abbrev sum_written : List ℕ → ℕ → List ℕ
 sum_written body end = written (sum_of (stx ∷ (body ++ end ∷ [])))
 
+-- the sums of the profile and of other blocks
 sum_abc : sum_written (content (codes "123") (codes "ABC")) etx ≡ codes "17;"
 sum_abc = refl
 
+-- a body of one part
 sum_one_part : sum_written (codes "123" ++ cr ∷ codes "ABC") etx ≡ codes "16>"
 sum_one_part = refl
 
+-- seven digits and five letters
 sum_hello : sum_written (content (codes "5551234") (codes "HELLO")) etx ≡ codes "2?<"
 sum_hello = refl
 
+-- an empty text
 sum_tone : sum_written (content (codes "15") []) etx ≡ codes "085"
 sum_tone = refl
 
+-- a field that goes on
 sum_continued : sum_written (codes "5551234" ++ cr ∷ 65 ∷ sub ∷ []) us ≡ codes "1?2"
 sum_continued = refl
 
+-- a body of 250 characters
 sum_of_longest : sum_written (content (codes "5551234") (replicate 241 65)) etx ≡ codes ">;9"
 sum_of_longest = refl
 
+-- a total of 16283
 sum_past_4096 : sum_written (replicate 250 65) us ≡ codes "?9;"
 sum_past_4096 = refl
 
@@ -41,9 +48,11 @@ sum_past_4096 = refl
 abbrev items : List ℕ → List Entry
 items x = items_of None (cut (length x) None BeforeLogon x).0
 
+-- an empty line and a logon
 abbrev log_on : List ℕ
 log_on = cr ∷ (esc ∷ codes "PG1") ++ cr ∷ []
 
+-- a content
 abbrev hello : List ℕ
 hello = content (codes "5551234") (codes "HELLO")
 
@@ -81,5 +90,6 @@ the_rest = refl
 value : read_field (codes "A" ++ sub ∷ codes "MB") ≡ Ok (65 ∷ 13 ∷ 66 ∷ [])
 value = refl
 
+-- the three faults
 no_values : (read_field (65 ∷ 127 ∷ []) ≡ Err Control) × (read_field (65 ∷ sub ∷ []) ≡ Err SubEnd) × (read_field (sub ∷ codes "a") ≡ Err SubLetter)
 no_values = (refl, refl, refl)

@@ -10,17 +10,21 @@ use Rattle.tap_block.specs.Chars.{sub}
 use Rattle.tap_block.specs.Fields.{Spelling, plain, pair, IsSpelling, spelling, spelled, HasValue, is_plain, is_letter, front, read_field, escaped, IsFaultAt, HasFault}
 use Rattle.tap_block.proofs.First.{equal, not_equal}
 
+-- nothing before a value
 pub front_nil : (r : Result (List ℕ) FieldFault) → front [] r ≡ r
 front_nil (Ok x) = refl
 front_nil (Err e) = refl
 
+-- two lists before a value
 pub front_front : (x y : List ℕ) (r : Result (List ℕ) FieldFault) → front x (front y r) ≡ front (x ++ y) r
 front_front x y (Ok z) = ap (λ w. Ok w) (sym (append_assoc x y z))
 front_front x y (Err e) = refl
 
+-- the test of a plain character
 plain_test : (c : ℕ) → 32 ≤ c → c ≤ 126 → (nat_le 32 c && nat_le c 126) ≡ true
 plain_test c h k = grind (arith, nat_tests)
 
+-- the test of a letter behind SUB
 letter_test : (c : ℕ) → 64 ≤ c → c ≤ 95 → (nat_le 64 c && nat_le c 95) ≡ true
 letter_test c h k = grind (arith, nat_tests)
 
@@ -29,6 +33,7 @@ pub read_plain : (c : ℕ) (f : List ℕ) → 32 ≤ c → c ≤ 126 → read_fi
 read_plain c [] h k = rw (plain_test c h k) refl
 read_plain c (d ∷ f) h k = rw (plain_test c h k, read_field) refl
 
+-- SUB and a letter at the front
 pub read_pair : (d : ℕ) (f : List ℕ) → 64 ≤ d → d ≤ 95 → read_field (sub ∷ d ∷ f) ≡ front ((d - 64) ∷ []) (read_field f)
 read_pair d f h k = rw (letter_test d h k, read_field) refl
 
@@ -48,6 +53,7 @@ value_read field value h = ap read_field h.form ∙ spellings_read h.spellings h
     spellings_read (plain c ∷ ss) p = read_plain c (flat_map spelling ss) p.0.0 p.0.1 ∙ ap (front (c ∷ [])) (spellings_read ss p.1)
     spellings_read (pair d ∷ ss) p = read_pair d (flat_map spelling ss) p.0.0 p.0.1 ∙ ap (front ((d - 64) ∷ [])) (spellings_read ss p.1)
 
+-- two values of one field are one
 pub one_value : (field v w : List ℕ) → HasValue field v → HasValue field w → v ≡ w
 one_value field v w h k = let e = value_read field v h in let f = value_read field w k in cc
 
@@ -55,21 +61,27 @@ one_value field v w h k = let e = value_read field v h in let f = value_read fie
 plain_if : (c : ℕ) → is_plain c ≡ true → (32 ≤ c) × (c ≤ 126)
 plain_if c h = grind (arith, nat_tests)
 
+-- no other character passes the test
 unplain_if : (c : ℕ) → is_plain c ≡ false → IsSpelling (plain c) → ⊥
 unplain_if c h k = let t = plain_test c k.0 k.1 in cc
 
+-- a letter passes its test
 letter_if : (c : ℕ) → is_letter c ≡ true → (64 ≤ c) × (c ≤ 95)
 letter_if c h = grind (arith, nat_tests)
 
+-- no other character passes it
 unletter_if : (c : ℕ) → is_letter c ≡ false → IsSpelling (pair c) → ⊥
 unletter_if c h k = let t = letter_test c k.0 k.1 in cc
 
+-- the test of SUB
 equal_if : (c : ℕ) → (c == sub) ≡ true → c ≡ sub
 equal_if c e = grind (arith, nat_tests)
 
+-- no other character passes that
 unequal_if : (c : ℕ) → (c == sub) ≡ false → c ≢ sub
 unequal_if c e h = let t = equal c sub h in cc
 
+-- the test of a character that is not plain
 not_plain : (c : ℕ) → (IsSpelling (plain c) → ⊥) → (nat_le 32 c && nat_le c 126) ≡ false
 not_plain c h = tested (nat_le 32 c && nat_le c 126) refl
   where
@@ -77,6 +89,7 @@ not_plain c h = tested (nat_le 32 c && nat_le c 126) refl
     tested true e = absurd (h (plain_if c e))
     tested false e = refl
 
+-- the test of a character that is no letter
 not_letter : (c : ℕ) → (IsSpelling (pair c) → ⊥) → (nat_le 64 c && nat_le c 95) ≡ false
 not_letter c h = tested (nat_le 64 c && nat_le c 95) refl
   where
@@ -110,6 +123,7 @@ abbrev ReadIs : List ℕ → Result (List ℕ) FieldFault → Type 0
 ReadIs field (Ok value) = HasValue field value
 ReadIs field (Err fault) = HasFault field fault
 
+-- one spelling more at the front
 with_spelling : (s : Spelling) (f : List ℕ) (r : Result (List ℕ) FieldFault) → IsSpelling s → ReadIs f r → ReadIs (spelling s ++ f) (front (spelled s ∷ []) r)
 with_spelling s f (Ok value) p h = record {
   spellings = s ∷ h.spellings;
@@ -129,6 +143,7 @@ with_spelling s f (Err fault) p h = record {
 first_fault : (field : List ℕ) (fault : FieldFault) → IsFaultAt fault field → HasFault field fault
 first_fault field fault h = record { spellings = []; each = tt; behind = field; form = refl; fault_is = h }
 
+-- what a field is read as holds of it
 pub read_is : (field : List ℕ) → ReadIs field (read_field field)
 read_is [] = record { spellings = []; each = tt; form = refl; spells = refl }
 read_is (c ∷ []) = one (is_plain c) refl
@@ -182,5 +197,6 @@ pub value_told : (told rest field : List ℕ) → length rest ≡ 0 → front to
 value_told told [] field e k = read_has field told (sym k ∙ ap (λ v. Ok v) (append-nil told))
 value_told told (c ∷ rest) field e k = absurd (omega (arith, e))
 
+-- the fault behind what was told so far
 pub fault_told : (told rest field : List ℕ) (fault : FieldFault) → read_field rest ≡ Err fault → front told (read_field rest) ≡ read_field field → HasFault field fault
 fault_told told rest field fault e k = read_has_fault field fault (sym k ∙ ap (front told) e)

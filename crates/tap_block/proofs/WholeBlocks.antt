@@ -1,5 +1,5 @@
 -- Blocks that stand alone.
-use Rattle.std.proofs.Common.{◌≡◌, ℕ, ◌+◌, ◌/◌, ◌%◌, ◌<◌, true, List, [], ◌∷◌, ◌++◌, Option, IsTrue, nat_eq, refl, sym, ◌∙◌, ap, subst, arith, append-nil, append_assoc}
+use Rattle.std.proofs.Common.{◌≡◌, ℕ, ◌%◌, ◌<◌, true, List, [], ◌∷◌, ◌++◌, Option, IsTrue, nat_eq, refl, sym, ◌∙◌, ap, subst, arith, append-nil, append_assoc}
 use Rattle.std.specs.List.{AllByRecursion}
 use Rattle.std.proofs.lemmas.Slice.Eq.{bytes_eq-Decides}
 use Rattle.tap_block.specs.declared.ends.End.{End}
@@ -19,6 +19,7 @@ characters_small (c ∷ x) h = let e : c % 128 ≡ c = (let k = h.0 in omega ari
 abbrev pub right_trailer : List ℕ → End → List ℕ
 right_trailer body end = written (sum_of ((stx ∷ body) ++ end_char end ∷ [])) ++ cr ∷ []
 
+-- a written sum and CR are a trailer
 written_trailer : (n : ℕ) → IsTrailer (written n ++ cr ∷ [])
 written_trailer n = ((λ h. omega (arith, h)), (λ h. omega (arith, h)), (λ h. omega (arith, h)))
 
@@ -37,9 +38,11 @@ block_text password body trailer x end h =
 pub right_is : (body trailer : List ℕ) (end : End) → IsTrue (is_right body end trailer) → trailer ≡ right_trailer body end
 right_is body trailer end h = (bytes_eq-Decides trailer (right_trailer body end)).0 h
 
+-- the right trailer is right
 pub is_right_of : (body : List ℕ) (end : End) → IsTrue (is_right body end (right_trailer body end))
 is_right_of body end = (bytes_eq-Decides (right_trailer body end) (right_trailer body end)).1 refl
 
+-- a list passes the test of being itself
 same_text : (x : List ℕ) → pointwise nat_eq x x ≡ true
 same_text [] = refl
 same_text (c ∷ x) = rw (equal c c refl, same_text x) refl

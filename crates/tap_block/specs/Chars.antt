@@ -3,31 +3,39 @@ use Rattle.std.specs.Prelude.{ℕ, ◌+◌, ◌/◌, ◌%◌, ◌<◌, List, [],
 use Rattle.tap_block.specs.declared.ends.End.{End}
 use Rattle.tap_block.specs.declared.ends.End.TheVariants.{Etx, Etb, Us}
 
--- control characters
+-- start of text
 abbrev pub stx : ℕ
 stx = 2
 
+-- end of text
 abbrev pub etx : ℕ
 etx = 3
 
+-- end of transmission
 abbrev pub eot : ℕ
 eot = 4
 
+-- line feed
 abbrev pub lf : ℕ
 lf = 10
 
+-- carriage return
 abbrev pub cr : ℕ
 cr = 13
 
+-- end of transmission block
 abbrev pub etb : ℕ
 etb = 23
 
+-- substitute
 abbrev pub sub : ℕ
 sub = 26
 
+-- escape
 abbrev pub esc : ℕ
 esc = 27
 
+-- unit separator
 abbrev pub us : ℕ
 us = 31
 
@@ -39,6 +47,7 @@ IsChar c = c < 128
 abbrev pub char_of : ℕ → ℕ
 char_of byte = byte % 128
 
+-- the characters of bytes
 abbrev pub characters : List ℕ → List ℕ
 characters bytes = map char_of bytes
 

@@ -11,10 +11,12 @@ pub data Spelling : Type 0 where
   plain : ℕ → Spelling
   pair : ℕ → Spelling
 
+-- plain characters are 0x20 to 0x7E, and SUB stands before 0x40 to 0x5F
 abbrev pub IsSpelling : Spelling → Type 0
 IsSpelling (plain c) = (32 ≤ c) × (c ≤ 126)
 IsSpelling (pair c) = (64 ≤ c) × (c ≤ 95)
 
+-- its characters
 abbrev pub spelling : Spelling → List ℕ
 spelling (plain c) = c ∷ []
 spelling (pair c) = sub ∷ c ∷ []
@@ -50,13 +52,16 @@ pub record HasFault (field : List ℕ) (fault : FieldFault) : Type 0 where
 abbrev pub is_plain : ℕ → Bool
 is_plain c = nat_le 32 c && nat_le c 126
 
+-- the test of a character behind SUB
 abbrev pub is_letter : ℕ → Bool
 is_letter c = nat_le 64 c && nat_le c 95
 
+-- a value with this before it
 abbrev pub front : List ℕ → Result (List ℕ) FieldFault → Result (List ℕ) FieldFault
 front x (Ok value) = Ok (x ++ value)
 front x (Err fault) = Err fault
 
+-- the value, or the fault at the first place without a spelling
 abbrev pub read_field : List ℕ → Result (List ℕ) FieldFault
 read_field [] = Ok []
 read_field (c ∷ []) = if is_plain c then Ok (c ∷ []) else Err (if c == sub then SubEnd else Control)
@@ -72,6 +77,7 @@ read_field (c ∷ d ∷ f) = elim (is_plain c) [
 abbrev pub escape_of : ℕ → List ℕ
 escape_of c = if nat_lt c 32 then sub ∷ (c + 64) ∷ [] else c ∷ []
 
+-- the field that spells a value
 abbrev pub escaped : List ℕ → List ℕ
 escaped value = flat_map escape_of value
 
@@ -86,6 +92,7 @@ abbrev pub longer : ℕ → Option (List ℕ × List ℕ) → Option (List ℕ �
 longer c None = None
 longer c (Some (l, x)) = Some (c ∷ l, x)
 
+-- cut at the first CR
 abbrev pub line_cut : List ℕ → Option (List ℕ × List ℕ)
 line_cut [] = None
 line_cut (c ∷ x) = if c == cr then Some ([], x) else longer c (line_cut x)
@@ -96,10 +103,12 @@ second_part first None = None
 second_part first (Some (second, [])) = Some (first, second)
 second_part first (Some (second, c ∷ x)) = None
 
+-- the first part is what stands before the first CR
 abbrev pub first_part : Option (List ℕ × List ℕ) → Option (List ℕ × List ℕ)
 first_part None = None
 first_part (Some (first, x)) = second_part first (line_cut x)
 
+-- both parts of a content
 abbrev pub parts_of : List ℕ → Option (List ℕ × List ℕ)
 parts_of content = first_part (line_cut content)
 

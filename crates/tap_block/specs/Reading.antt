@@ -38,6 +38,7 @@ text (block b e t) = (stx ∷ b) ++ end_char e ∷ t
 abbrev pub IsBodyChar : ℕ → Type 0
 IsBodyChar c = (c ≢ stx) × (c ≢ etx) × (c ≢ etb) × (c ≢ us)
 
+-- a body is a list of these
 abbrev pub IsBody : List ℕ → Type 0
 IsBody b = AllByRecursion IsBodyChar b
 
@@ -70,10 +71,12 @@ abbrev pub is_password : Option (List ℕ) → List ℕ → Bool
 is_password None word = (length word == 0) || (length word == 6)
 is_password (Some password) word = (length word == 6) && pointwise nat_eq word password
 
+-- a logon
 abbrev pub is_logon : Option (List ℕ) → List ℕ → Bool
 is_logon password (a ∷ b ∷ c ∷ d ∷ word) = (a == 27) && (b == 80) && (c == 71) && (d == 49) && is_password password word
 is_logon password l = false
 
+-- a line without LF
 abbrev pub without_lf : List ℕ → List ℕ
 without_lf l = filter (λ c. not (c == lf)) l
 
@@ -90,9 +93,11 @@ abbrev pub line_item : Option (List ℕ) → List ℕ → Entry
 line_item password [] = empty_line
 line_item password (c ∷ l) = if is_logon password (c ∷ l) then logon else wrong_line
 
+-- a right trailer is the sum from STX through the end, and CR
 abbrev pub is_right : List ℕ → End → List ℕ → Bool
 is_right b e t = pointwise nat_eq t (written (sum_of ((stx ∷ b) ++ end_char e ∷ [])) ++ cr ∷ [])
 
+-- the item of a piece, if it has one
 abbrev pub item_of : Option (List ℕ) → Piece → Option Entry
 item_of password (line l) = Some (line_item password (without_lf l))
 item_of password (skipped c) = None
@@ -106,6 +111,7 @@ abbrev pub mode_by : Entry → Mode → Mode
 mode_by logon mode = AfterLogon
 mode_by other mode = mode
 
+-- what is read behind a piece
 abbrev pub mode_after : Option (List ℕ) → Piece → Mode → Mode
 mode_after password (line l) mode = mode_by (line_item password (without_lf l)) mode
 mode_after password other mode = mode
@@ -126,6 +132,7 @@ abbrev pub mode_at : Option (List ℕ) → Mode → List Piece → Mode
 mode_at password mode [] = mode
 mode_at password mode (piece ∷ pieces) = mode_at password (mode_after password piece mode) pieces
 
+-- the items of pieces
 abbrev pub items_of : Option (List ℕ) → List Piece → List Entry
 items_of password pieces = filter_map (item_of password) pieces
 

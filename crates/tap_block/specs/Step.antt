@@ -4,7 +4,7 @@ use lib.Pointwise.{pointwise}
 use Rattle.tap_block.specs.declared.ends.End.{End}
 use Rattle.tap_block.specs.declared.ends.End.TheVariants.{Etx, Etb, Us}
 use Rattle.tap_block.specs.declared.items.Item.{Item}
-use Rattle.tap_block.specs.declared.items.Item.TheVariants.{EmptyLine, Logon, WrongLine, Block, Bye}
+use Rattle.tap_block.specs.declared.items.Item.TheVariants.{Block, Bye}
 use Rattle.tap_block.specs.Chars.{stx, etx, eot, lf, cr, etb, us, written, end_char}
 use Rattle.tap_block.specs.Reading.{Entry, logon, line_item}
 use Rattle.tap_block.specs.Brief.{Brief, in_line, between, after_eot, in_body, in_trailer, Held, answer_of, body_kept, line_kept}

@@ -38,5 +38,5 @@ pub use writer::put_block;
 /// The most characters that a body may have.
 pub const LONGEST_BODY: usize = 250;
 
-/// How many characters a right trailer has, and any at most: the sum and CR.
+/// The most characters that a trailer has. A right one is the three of the sum, and CR.
 pub const TRAILER: usize = 4;

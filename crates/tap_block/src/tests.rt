@@ -137,7 +137,7 @@ fn parity_bits_are_not_read(rt: HostRuntime) {
     let mut scanner = Scanner::new(Some([b'S', b'E', b'C', b'R', b'E', b'T']));
     let mut last = None;
     for c in b"\x1BPG1SECRET\r\x02A\x1F062\r" {
-        last = scanner.feed(*c + 128);
+        last = scanner.feed(*c | 0x80);
     }
     let block = Item::Block {
         end: End::Us,

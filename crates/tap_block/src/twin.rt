@@ -123,7 +123,11 @@ fn block(rest: &[u8]) -> Option<Front<'_>> {
             });
         }
     };
-    let (trailer, behind) = behind.split_at(trailer_size(behind)?);
+    let wanted = trailer_size(behind);
+    if behind.len() < wanted {
+        return None;
+    }
+    let (trailer, behind) = behind.split_at(wanted);
     let item = Item::Block {
         end,
         sum_ok: trailer == right_trailer(body, character).as_slice(),
@@ -136,14 +140,13 @@ fn block(rest: &[u8]) -> Option<Front<'_>> {
     })
 }
 
-/// How many characters the trailer has that begins here.
-fn trailer_size(rest: &[u8]) -> Option<usize> {
+/// How many characters the trailer has that begins here, or is to have.
+fn trailer_size(rest: &[u8]) -> usize {
     match rest {
-        [CR, ..] => Some(1),
-        [_, CR, ..] => Some(2),
-        [_, _, CR, ..] => Some(3),
-        [_, _, _, _, ..] => Some(4),
-        _ => None,
+        [CR, ..] => 1,
+        [_, CR, ..] => 2,
+        [_, _, CR, ..] => 3,
+        _ => 4,
     }
 }
 

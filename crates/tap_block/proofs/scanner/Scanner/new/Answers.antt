@@ -1,4 +1,3 @@
-use Rattle.std.proofs.Common.{ap, take, refl}
 use Rattle.tap_block.specs.Reading.{BeforeLogon}
 use Rattle.tap_block.proofs.Grows.{stands_nil}
 use Rattle.tap_block.proofs.scanner.Scanner.new.Goals as goal
