@@ -29,6 +29,8 @@ enum Item {
     Bye,
 }
 
+/// All places of the proved scanner, though the bytes here hold blocks alone.
+#[allow(dead_code)]
 #[derive(Clone, Copy)]
 enum Place {
     InLine,
@@ -75,7 +77,7 @@ impl Scanner {
     fn blocks() -> Scanner {
         Scanner {
             password: None,
-            place: Place::Between,
+            place: black_box(Place::Between),
             line: Kept::new(),
             body: Kept::new(),
             size: 0,
@@ -213,7 +215,7 @@ fn proved(bytes: &[u8]) -> u64 {
     unsafe { block_reader_read(bytes.as_ptr(), bytes.len()) }
 }
 
-/// 100 MB of the block with this body.
+/// Some 1 MB of the block with this body.
 fn blocks(body: &[u8]) -> Vec<u8> {
     let mut block = vec![STX];
     block.extend_from_slice(body);
@@ -221,18 +223,22 @@ fn blocks(body: &[u8]) -> Vec<u8> {
     let total = block.iter().map(|c| u32::from(*c)).sum::<u32>() % 4096;
     block.extend_from_slice(&written(total));
     block.push(CR);
-    block.iter().copied().cycle().take(100_000_000 / block.len() * block.len()).collect()
+    block.repeat(1_000_000 / block.len())
 }
 
-/// The least time of five, in nanoseconds a byte.
+/// How often each reads the blocks: 100 MB in all. The two take turns, so that both meet what else the machine does.
+const ROUNDS: usize = 100;
+
+/// The time of one reading, in nanoseconds a byte.
 fn time(read: fn(&[u8]) -> u64, bytes: &[u8]) -> f64 {
-    (0..5)
-        .map(|_| {
-            let start = Instant::now();
-            black_box(read(black_box(bytes)));
-            start.elapsed().as_secs_f64() * 1e9 / bytes.len() as f64
-        })
-        .fold(f64::INFINITY, f64::min)
+    let start = Instant::now();
+    black_box(read(black_box(bytes)));
+    start.elapsed().as_secs_f64() * 1e9 / bytes.len() as f64
+}
+
+fn median(mut times: Vec<f64>) -> f64 {
+    times.sort_by(f64::total_cmp);
+    times[times.len() / 2]
 }
 
 fn main() {
@@ -240,7 +246,9 @@ fn main() {
     for (name, body) in [("250 characters", longest.as_slice()), ("14 characters", b"5551234\rHELLO\r")] {
         let bytes = blocks(body);
         assert_eq!(proved(&bytes), plain(&bytes));
-        let (proved, plain) = (time(proved, &bytes), time(plain, &bytes));
+        let (of_proved, of_plain): (Vec<_>, Vec<_>) =
+            (0..ROUNDS).map(|_| (time(proved, &bytes), time(plain, &bytes))).unzip();
+        let (proved, plain) = (median(of_proved), median(of_plain));
         println!("bodies of {name}: proved {proved:.2} ns a byte, plain {plain:.2} ns a byte, ratio {:.2}", proved / plain);
     }
 }
