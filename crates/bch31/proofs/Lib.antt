@@ -6,3 +6,4 @@ pub mod Light
 pub mod Entries
 pub mod Apart
 pub mod Fixes
+pub mod Turns

@@ -25,3 +25,5 @@ pub use correction::{correct, distance};
 
 #[cfg(test)]
 mod tests;
+#[cfg(test)]
+mod twin;
