@@ -1,5 +1,5 @@
 -- What the correction gives.
-use Rattle.std.proofs.Common.{◌≡◌, ℕ, ◌+◌, ◌*◌, ◌/◌, ◌%◌, ◌^◌, ◌<◌, ◌≤◌, ◌↔◌, arith, refl, sym, ◌∙◌, ap, inl, inr, bit_xor, bit_or, bit_and, slice_index, Bool, true, false, Option, Some, None, IsNone}
+use Rattle.std.proofs.Common.{◌≡◌, ℕ, ◌*◌, ◌/◌, ◌%◌, ◌^◌, ◌<◌, ◌≤◌, ◌↔◌, arith, refl, sym, ◌∙◌, ap, inl, inr, bit_xor, bit_or, bit_and, slice_index, Bool, true, false, Option, Some, None, IsNone}
 use Rattle.std.proofs.lemmas.Bool.{le-leb, lt-leb, cases_lt}
 use Rattle.std.specs.Int.Bits.{xor_lt, xor_self, xor_zero_r}
 use Rattle.std.specs.Int.Count.{ones, ones_step, ones-ones}

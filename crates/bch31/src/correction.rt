@@ -27,5 +27,9 @@ pub fn correct(w: u32) -> Option<u32>
     let heard = w >> 1;
     let sent = heard ^ pattern(remainder(heard));
     let v = (sent << 1) | (sent.count_ones() & 1);
-    if distance(w, v) <= REPAIRED { Some(v) } else { None }
+    if distance(w, v) <= REPAIRED {
+        Some(v)
+    } else {
+        None
+    }
 }

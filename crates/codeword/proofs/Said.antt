@@ -1,9 +1,8 @@
 -- What words say: `kind_of` is the relation.
-use Rattle.std.proofs.Common.{◌≡◌, ℕ, zero, suc, ◌+◌, ◌-◌, ◌*◌, ◌/◌, ◌%◌, ◌^◌, ◌<◌, ◌≤◌, ◌↔◌, ◌==◌, Bool, true, false, arith, refl, sym, ◌∙◌, ap, ap₂, inl, inr, lit<, Option, Some, None, IsNone, option_map}
-use Rattle.std.specs.Prelude.{nat_lt}
+use Rattle.std.proofs.Common.{◌≡◌, ℕ, zero, suc, ◌+◌, ◌-◌, ◌*◌, ◌/◌, ◌%◌, ◌^◌, ◌<◌, ◌≤◌, ◌↔◌, Bool, arith, refl, ◌∙◌, ap, ap₂, inl, inr, Option, Some, None, option_map}
 use Rattle.std.proofs.lemmas.Bool.{cases_lt, lt-ltb, le-ltb}
-use Rattle.bch31.specs.Codeword.{IsCodeword, front_of}
-use Rattle.bch31.specs.Fix.{IsFix, HasNoFix, fix_of}
+use Rattle.bch31.specs.Codeword.{front_of}
+use Rattle.bch31.specs.Fix.{IsFix, fix_of}
 use Rattle.bch31.proofs.Apart.{codeword-lt}
 use Rattle.bch31.proofs.Fixes.{fix_of-some, fix_of-is}
 use Rattle.codeword.specs.declared.functions.Function.{Function}

@@ -81,8 +81,16 @@ fn known_words_have_their_kinds(rt: HostRuntime) {
     ] {
         let wanted = Some(WordKind::Address { high, function });
         assert_eq!(rt; kind(word), wanted, "at {word:x}");
-        assert_eq!(rt; kind(word ^ 0x8000_0001), wanted, "at {word:x} with two wrong bits");
-        assert_eq!(rt; kind(word ^ 0x8000_0003), None, "at {word:x} with three wrong bits");
+        assert_eq!(rt;
+            kind(word ^ 0x8000_0001),
+            wanted,
+            "at {word:x} with two wrong bits"
+        );
+        assert_eq!(rt;
+            kind(word ^ 0x8000_0003),
+            None,
+            "at {word:x} with three wrong bits"
+        );
     }
 }
 
@@ -97,6 +105,10 @@ fn known_words_have_their_groups(rt: HostRuntime) {
     ] {
         let wanted = Some(WordKind::Message { group });
         assert_eq!(rt; kind(word), wanted, "at {word:x}");
-        assert_eq!(rt; kind(word ^ 0xC000_0000), wanted, "at {word:x} with two wrong bits");
+        assert_eq!(rt;
+            kind(word ^ 0xC000_0000),
+            wanted,
+            "at {word:x} with two wrong bits"
+        );
     }
 }

@@ -1,4 +1,4 @@
-use Rattle.std.proofs.Common.{◌≡◌, ◌%◌, count_ones, sym, ◌∙◌, eqb-true, eq-eqb}
+use Rattle.std.proofs.Common.{◌%◌, count_ones, sym, ◌∙◌, eqb-true, eq-eqb}
 use Rattle.bch31.proofs.Multiples.{codeword_remainder}
 use Rattle.bch31.proofs.Fixes.{codeword_from}
 use Rattle.bch31.proofs.check.is_codeword.Goals as goal

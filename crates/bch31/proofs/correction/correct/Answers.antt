@@ -1,4 +1,4 @@
-use Rattle.std.proofs.Common.{◌≡◌, ◌∙◌, ap, slice_index}
+use Rattle.std.proofs.Common.{◌∙◌, ap, slice_index}
 use Rattle.bch31.specs.declared.patterns.TheConstants.{PATTERNS}
 use Rattle.bch31.proofs.Fixes.{repaired_word, answer_near, answer_far, answer_some, answer_none}
 use Rattle.bch31.proofs.correction.correct.Goals as goal

@@ -1,5 +1,3 @@
-use Rattle.std.proofs.Common.{◌∙◌, ap, slice_index}
-use Rattle.bch31.specs.Division.{remainder as remainder_of}
 use Rattle.bch31.proofs.Remainders.{remainder-lt}
 use Rattle.bch31.proofs.Parts.{divided}
 use Rattle.bch31.proofs.division.remainder.Goals as goal

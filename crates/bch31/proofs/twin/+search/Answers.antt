@@ -17,5 +17,5 @@ returns-else-left-eq0-clause-some n c =
 
 pub returns-else-left-eq0-clause-none : goal.returns-else-left-eq0-clause-none
 returns-else-left-eq0-clause-none n c h v near =
-    step_none c.args.w v c.args.places c.args.left c.if-places-eq0.false c.if-left-eq0.false (c.in-None.ensures.none refl v) 
+    step_none c.args.w v c.args.places c.args.left c.if-places-eq0.false c.if-left-eq0.false (c.in-None.ensures.none refl v)
     (subst (λ (t : ℕ). IsNear (bit_xor c.args.w t) v (c.args.places - 1) (c.args.left - 1) → ⊥) (bit_above c.args.places c.if-places-eq0.false c.requires) (c.search-else-left-eq0.ensures.none h v)) near

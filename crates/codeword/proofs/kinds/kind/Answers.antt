@@ -1,4 +1,4 @@
-use Rattle.codeword.proofs.Said.{kind_of-fix, kind_of-none, answer_kind}
+use Rattle.codeword.proofs.Said.{kind_of-fix, kind_of-none}
 use Rattle.codeword.proofs.kinds.kind.Goals as goal
 
 pub returns-in-Some-clause-value : goal.returns-in-Some-clause-value
