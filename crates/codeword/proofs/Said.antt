@@ -9,8 +9,11 @@ use Rattle.codeword.specs.declared.functions.Function.{Function}
 use Rattle.codeword.specs.declared.functions.Function.TheVariants.{Numeric, Tone1, Tone2, Alpha}
 use Rattle.codeword.specs.declared.kinds.WordKind.{WordKind}
 use Rattle.codeword.specs.declared.kinds.WordKind.TheVariants.{Address, Message}
+use Rattle.codeword.specs.Capcodes.{high_of}
 use Rattle.codeword.specs.Functions.{number_of}
-use Rattle.codeword.specs.Kinds.{IsSmall, front_for, IsKind, function_of, kind_with, kind_from, kind_of, KindOfIsKind}
+use Rattle.codeword.specs.Words.{address_of, message_of}
+use Rattle.codeword.specs.Kinds.{IsSmall, front_for, IsKind, function_of, kind_with, kind_from, kind_of, KindOfIsKind, AddressesAreRead, MessagesAreRead}
+use Rattle.codeword.proofs.Carried.{front_of-address_of, front_of-message_of}
 use Rattle.codeword.proofs.Fields.{number_of-lt}
 
 -- the function with the number of a function
@@ -112,3 +115,21 @@ kind_of-fix w v kind is same = ap (λ (x : WordKind). Some x) same ∙ ap (optio
 pub kind_of-none : (w : ℕ) → None ≡ fix_of w → None ≡ kind_of w
 unfolding kind_of
 kind_of-none w is = ap (option_map (λ (x : ℕ). kind_from (front_of x))) is
+
+-- an address word with at most two wrong bits
+pub addresses_are_read : AddressesAreRead
+addresses_are_read w c f h small fix = kind_of-some w (Address (high_of c) f) h (record {
+  codeword = address_of c f;
+  fix = fix;
+  front = front_of-address_of c f;
+  small = omega arith;
+})
+
+-- a message word with at most two wrong bits
+pub messages_are_read : MessagesAreRead
+messages_are_read w group h small fix = kind_of-some w (Message group) h (record {
+  codeword = message_of group;
+  fix = fix;
+  front = front_of-message_of group;
+  small = small;
+})

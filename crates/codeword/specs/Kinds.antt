@@ -6,7 +6,9 @@ use Rattle.codeword.specs.declared.functions.Function.{Function}
 use Rattle.codeword.specs.declared.functions.Function.TheVariants.{Numeric, Tone1, Tone2, Alpha}
 use Rattle.codeword.specs.declared.kinds.WordKind.{WordKind}
 use Rattle.codeword.specs.declared.kinds.WordKind.TheVariants.{Address, Message}
+use Rattle.codeword.specs.Capcodes.{high_of}
 use Rattle.codeword.specs.Functions.{number_of}
+use Rattle.codeword.specs.Words.{address_of, message_of}
 
 -- The high bits of a capcode have 18 bits, and a group has 20.
 abbrev pub IsSmall : WordKind → Type 0
@@ -52,3 +54,13 @@ kind_of word = option_map (λ v. kind_from (front_of v)) (fix_of word)
 -- `kind_of` gives exactly the kind of the codeword within two bits
 abbrev pub KindOfIsKind : Type 0
 KindOfIsKind = (word : ℕ) (kind : WordKind) → word < 2 ^ 32 → (kind_of word ≡ Some kind) ↔ IsKind word kind
+
+-- A word within two bits of an address word is an address with the high bits of the capcode and the function.
+abbrev pub AddressesAreRead : Type 0
+AddressesAreRead =
+    (word capcode : ℕ) (function : Function) → word < 2 ^ 32 → capcode < 2 ^ 21 → IsFix word (address_of capcode function)
+    → kind_of word ≡ Some (Address (high_of capcode) function)
+
+-- A word within two bits of a message word is a message with the group.
+abbrev pub MessagesAreRead : Type 0
+MessagesAreRead = (word group : ℕ) → word < 2 ^ 32 → group < 2 ^ 20 → IsFix word (message_of group) → kind_of word ≡ Some (Message group)

@@ -5,17 +5,15 @@ ghost use Rattle.bch31.specs.Fix.{HasNoFix};
 ghost use Rattle.codeword.specs.Kinds.{IsKind, IsSmall, kind_from, kind_of};
 
 use crate::functions::Function;
+use crate::words::MESSAGE;
 use bch31::correct;
-
-/// Fronts of message words are at least this: bit 1 above the 20 bits of the group.
-const MESSAGE: u32 = 1 << 20;
 
 /// What a codeword carries in its first 21 bits.
 #[derive(Clone, Copy, Debug, PartialEq, Eq)]
 pub enum WordKind {
-    /// An address word: the 18 high bits of a capcode, and a function. The idle word and the sync word are of this kind.
+    /// An address word: the 18 high bits of a capcode, below 2^18, and a function. The idle word and the sync word are of this kind.
     Address { high: u32, function: Function },
-    /// A message word: the 20 bits of its group.
+    /// A message word: the 20 bits of its group, below 2^20.
     Message { group: u32 },
 }
 

@@ -8,7 +8,8 @@
 //! - `functions`: the four functions, by number and by letter.
 //! - `kinds`: what a word says, once its wrong bits are repaired.
 //! - `words`: the idle word, the sync word, address words, message words.
-//! - `laws`: the words of pages are neither the idle word nor the sync word; a word has at most one kind.
+//! - `laws`: the words of pages are neither the idle word nor the sync word; a word has at most one kind;
+//!   words with at most two wrong bits are read as they were sent.
 #![tactic(auto)]
 
 pub mod addresses;
