@@ -1,4 +1,9 @@
 pub mod Remainders
 pub mod Multiples
-pub mod Steps
+pub mod Parts
 pub mod Fronts
+pub mod Light
+pub mod Entries
+pub mod Apart
+pub mod Fixes
+pub mod Turns

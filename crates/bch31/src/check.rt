@@ -1,31 +1,10 @@
-//! Check bits, by division.
+//! Check bits, and which words are codewords.
 
-ghost use Rattle.std.specs.Prelude.{◌≡◌, ◌<◌, ◌^◌};
-ghost use Rattle.bch31.specs.Codeword.{check_of};
-ghost use Rattle.bch31.specs.Division.{remainder as remainder_of};
+ghost use Rattle.std.specs.Prelude.{◌≡◌, ◌<◌, ◌^◌, ◌↔◌, IsTrue};
+ghost use Rattle.bch31.specs.Codeword.{IsCodeword, check_of};
 ghost use Rattle.bch31.specs.Word.{word_of};
 
-/// M.584-2: the generator x^10 + x^9 + x^8 + x^6 + x^5 + x^3 + 1.
-const GENERATOR: u32 = 0x769;
-
-/// The lowest number that needs more than the ten bits of a remainder.
-const TOO_HIGH: u32 = 1 << 10;
-
-/// The remainder of the polynomial whose coefficients are these 31 bits, divided by the generator.
-fn remainder(bits: u32) -> u32
-    requires { bits < 2 ^ 31 }
-    ensures value { result ≡ remainder_of 31 bits }
-    ensures small { result < 2 ^ 10 }
-{
-    let mut rest = 0;
-    for i in 0..31u32 {
-        rest = (rest << 1) | ((bits >> (30 - i)) & 1);
-        if rest >= TOO_HIGH {
-            rest ^= GENERATOR;
-        }
-    }
-    rest
-}
+use crate::division::remainder;
 
 /// The ten check bits, bits 22 to 31, of the codeword whose first 21 bits are `d`.
 pub fn check_bits(d: u32) -> u32
@@ -34,4 +13,11 @@ pub fn check_bits(d: u32) -> u32
     ensures small { result < 2 ^ 10 }
 {
     remainder(d << 10)
+}
+
+/// Whether the word is a codeword: bits 1 to 31 are a multiple of the generator, and the number of ones is even.
+pub fn is_codeword(w: u32) -> bool
+    ensures { IsTrue result ↔ IsCodeword w }
+{
+    remainder(w >> 1) == 0 && w.count_ones() % 2 == 0
 }

@@ -2,3 +2,4 @@ pub mod Carried
 pub mod Fields
 pub mod Known
 pub mod Runs
+pub mod Said

@@ -1,4 +1,5 @@
 pub mod Capcodes
 pub mod Functions
+pub mod Kinds
 pub mod Runs
 pub mod Words

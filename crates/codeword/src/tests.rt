@@ -67,3 +67,48 @@ fn functions_have_their_numbers_and_letters(rt: HostRuntime) {
         assert_eq!(rt; function.letter(), letter);
     }
 }
+
+#[test]
+fn known_words_have_their_kinds(rt: HostRuntime) {
+    for (word, high, function) in [
+        (0x7CD2_15D8u32, 255_632u32, Function::Tone2),
+        (0x7A89_C197, 250_958, Function::Numeric),
+        (0x0000_0ED3, 0, Function::Tone1),
+        (0x0000_26EC, 1, Function::Numeric),
+        (0x0000_283F, 1, Function::Tone1),
+        (0x0000_3B49, 1, Function::Alpha),
+        (0x0000_4DD8, 2, Function::Tone1),
+    ] {
+        let wanted = Some(WordKind::Address { high, function });
+        assert_eq!(rt; kind(word), wanted, "at {word:x}");
+        assert_eq!(rt;
+            kind(word ^ 0x8000_0001),
+            wanted,
+            "at {word:x} with two wrong bits"
+        );
+        assert_eq!(rt;
+            kind(word ^ 0x8000_0003),
+            None,
+            "at {word:x} with three wrong bits"
+        );
+    }
+}
+
+#[test]
+fn known_words_have_their_groups(rt: HostRuntime) {
+    for (word, group) in [
+        (0x8000_0769u32, 0x00000u32),
+        (0xC143_87B8, 0x82870),
+        (0xC000_04DC, 0x80000),
+        (0x89A2_634D, 0x1344C),
+        (0xC219_9DEA, 0x84333),
+    ] {
+        let wanted = Some(WordKind::Message { group });
+        assert_eq!(rt; kind(word), wanted, "at {word:x}");
+        assert_eq!(rt;
+            kind(word ^ 0xC000_0000),
+            wanted,
+            "at {word:x} with two wrong bits"
+        );
+    }
+}

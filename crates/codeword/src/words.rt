@@ -15,7 +15,7 @@ pub const IDLE: u32 = 0x7A89_C197;
 pub const SYNC: u32 = 0x7CD2_15D8;
 
 /// Bit 1 of a message word, above the 20 bits of its group.
-const MESSAGE: u32 = 1 << 20;
+pub(crate) const MESSAGE: u32 = 1 << 20;
 
 /// The codeword whose first 21 bits are these: the check bits behind them, and a bit that makes the number of ones even.
 fn word(front: u32) -> u32
