@@ -1,5 +1,5 @@
 -- A text that fits is read back from its groups.
-use Rattle.std.proofs.Common.{◌≡◌, ◌≢◌, ℕ, zero, suc, ◌+◌, ◌-◌, ◌*◌, ◌/◌, ◌%◌, ◌==◌, ◌^◌, ◌<◌, ◌≤◌, inl, inr, Bool, List, [], ◌∷◌, ◌++◌, length, map, take, drop, replicate, flat_map, refl, sym, ◌∙◌, ap, ap₂, subst, arith, length-append, length-drop}
+use Rattle.std.proofs.Common.{◌≡◌, ◌≢◌, ℕ, zero, suc, ◌+◌, ◌-◌, ◌*◌, ◌/◌, ◌%◌, ◌==◌, ◌^◌, ◌<◌, ◌≤◌, inl, inr, Bool, List, [], ◌∷◌, ◌++◌, length, map, take, drop, replicate, refl, sym, ◌∙◌, ap, ap₂, subst, arith, length-append, length-drop}
 use Rattle.std.specs.Prelude.{All, Contains}
 use Rattle.std.proofs.Math.Nat.{pow-suc}
 use Rattle.std.proofs.Math.Seq.{take-add, take-append_seam, drop-append_seam, take-append-add}
@@ -96,8 +96,8 @@ pub stripped-same : (blank : ℕ) (xs : List ℕ) → ((front : List ℕ) → xs
 stripped-same blank [] other = refl
 stripped-same blank (x ∷ []) other =
     elim (eqb_tells x blank) [
-      inl h ↦ absurd (other [] (ap (λ y. y ∷ []) h.1))
-    | inr h ↦ rw h.0 refl
+      | inl h ↦ absurd (other [] (ap (λ y. y ∷ []) h.1))
+      | inr h ↦ rw h.0 refl
     ]
 stripped-same blank (x ∷ y ∷ xs) other =
     ap (kept blank x) (stripped-same blank (y ∷ xs) (λ front e. other (x ∷ front) (ap (λ t. x ∷ t) e)))

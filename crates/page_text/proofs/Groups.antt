@@ -1,12 +1,12 @@
 -- The groups of a text by their bits.
-use Rattle.std.proofs.Common.{◌≡◌, ℕ, zero, suc, ◌+◌, ◌-◌, ◌*◌, ◌/◌, ◌%◌, ◌^◌, ◌<◌, ◌≤◌, ◌⊎◌, inl, inr, Bool, false, ◌==◌, List, [], ◌∷◌, ◌++◌, length, map, take, drop, replicate, get_or, refl, sym, ◌∙◌, ap, ap₂, arith, add-one, length-append, length-drop}
-use Rattle.std.proofs.Math.Nat.{pow-suc, add-div_right, add-mod_right, div-div-eq-div-mul, div-eq_of_lt, mod-eq_of_lt, mul_comm}
+use Rattle.std.proofs.Common.{◌≡◌, ℕ, zero, suc, ◌+◌, ◌*◌, ◌/◌, ◌%◌, ◌^◌, ◌<◌, ◌≤◌, Bool, false, ◌==◌, List, [], ◌∷◌, ◌++◌, length, take, drop, replicate, get_or, refl, sym, ◌∙◌, ap, arith, length-append, length-drop}
+use Rattle.std.proofs.Math.Nat.{pow-suc, div-div-eq-div-mul, mul_comm}
 use Rattle.std.proofs.Math.Pow.{pow_mono}
-use Rattle.std.proofs.lemmas.List.{length-take, drop-drop, get_or-drop, get_or_append_left, get_or-append_right, get_or-replicate, length-replicate, take_more}
+use Rattle.std.proofs.lemmas.List.{length-take, get_or-drop, get_or-replicate, length-replicate, take_more}
 use Rattle.bits.specs.Bits.{rising_bits_of, bit_value, number}
 use Rattle.bits.proofs.Lengths.{length-rising_bits_of}
 use Rattle.bits.proofs.Numbers.{bit_value-eqb, number-lt, number-push}
-use Rattle.page_text.specs.Groups.{pieces, code_bits, group_count, groups_of}
+use Rattle.page_text.specs.Groups.{code_bits, group_count, groups_of}
 use Rattle.page_text.proofs.RunTogether.{length-flat_map, get_or-flat_map, length-pieces, get_or-pieces}
 
 -- bit i of a number, the least significant first

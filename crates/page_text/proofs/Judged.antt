@@ -1,5 +1,5 @@
 -- How texts are judged.
-use Rattle.std.proofs.Common.{◌≡◌, ◌≢◌, ℕ, ◌+◌, ◌<◌, ◌≤◌, ◌⊎◌, inl, inr, List, [], ◌∷◌, ◌++◌, length, refl, sym, ap, subst, arith, Result, Ok, Err}
+use Rattle.std.proofs.Common.{◌≡◌, ℕ, ◌<◌, ◌⊎◌, inl, inr, List, refl, ap, subst, arith, Result, Ok, Err}
 use Rattle.std.specs.Prelude.{◌↔◌, IsOk}
 use Rattle.codeword.specs.declared.functions.Function.{Function}
 use Rattle.codeword.specs.declared.functions.Function.TheVariants.{Numeric, Tone1, Tone2, Alpha}
@@ -54,9 +54,9 @@ orders m n = grind arith
 pub first_fault-same : (function : Function) (text : List ℕ) (a b : TextFault) → IsFirstFault function text a → IsFirstFault function text b → a ≡ b
 first_fault-same function text a b first second =
     elim (orders (rank a) (rank b)) [
-      inl l ↦ absurd (second.first a l first.applies)
-    | inr (inl e) ↦ rank-same a b e
-    | inr (inr l) ↦ absurd (first.first b l second.applies)
+      | inl l ↦ absurd (second.first a l first.applies)
+      | inr (inl e) ↦ rank-same a b e
+      | inr (inr l) ↦ absurd (first.first b l second.applies)
     ]
 
 -- it fits exactly where it is judged so
@@ -68,6 +68,7 @@ judged-fits function text (Err fault) judged = (λ e. absurd (cc), λ fits. absu
 pub judged-faults : (function : Function) (text : List ℕ) (result : Result Unit TextFault) → IsJudged function text result
     → (fault : TextFault) → (result ≡ Err fault) ↔ IsFirstFault function text fault
 judged-faults function text (Ok u) judged fault = (λ e. absurd (cc), λ first. absurd (fits-no_fault function text fault judged first.applies))
-judged-faults function text (Err own) judged fault =
-    (λ e. let same : own ≡ fault = cc in subst (IsFirstFault function text) same judged,
-     λ first. ap Err (first_fault-same function text own fault judged first))
+judged-faults function text (Err own) judged fault = (
+  λ e. let same : own ≡ fault = cc in subst (IsFirstFault function text) same judged,
+  λ first. ap Err (first_fault-same function text own fault judged first),
+)

@@ -1,5 +1,5 @@
 -- Codes and characters of groups, one by one, and the blanks at the end.
-use Rattle.std.proofs.Common.{◌≡◌, ◌≢◌, ℕ, zero, suc, ◌+◌, ◌-◌, ◌*◌, ◌/◌, ◌%◌, ◌^◌, ◌<◌, ◌≤◌, ◌⊎◌, inl, inr, Bool, false, ◌==◌, List, [], ◌∷◌, ◌++◌, length, map, take, drop, replicate, get_or, refl, sym, ◌∙◌, ap, ap₂, arith, add-one, eq-eqb, ne_eqb, length-append}
+use Rattle.std.proofs.Common.{◌≡◌, ◌≢◌, ℕ, zero, suc, ◌+◌, ◌-◌, ◌*◌, ◌/◌, ◌%◌, ◌^◌, ◌<◌, ◌≤◌, Bool, false, ◌==◌, List, [], ◌∷◌, ◌++◌, length, take, drop, replicate, get_or, refl, sym, ◌∙◌, ap, ap₂, arith, eq-eqb, ne_eqb}
 use Rattle.std.proofs.Math.Nat.{pow-suc, div-div-eq-div-mul, div-le_of_le-mul, div-mul-le_self, mul-le-mul_right, mul_comm}
 use Rattle.std.proofs.Math.Pow.{pow_mono}
 use Rattle.std.proofs.lemmas.List.{length-take, get_or_append_left, get_or-append_right, take_more, take_more_set, take_all}
@@ -7,8 +7,7 @@ use Rattle.std.specs.Prelude.{slice_set}
 use Rattle.bits.specs.Bits.{bits_of, bit_value}
 use Rattle.bits.proofs.Lengths.{length-bits_of}
 use Rattle.bits.proofs.Numbers.{bit_value-eqb, bit_value-lt}
-use Rattle.page_text.specs.Groups.{pieces}
-use Rattle.page_text.specs.Texts.{rising_number, group_bits, codes_of, kept, stripped, numeric_character}
+use Rattle.page_text.specs.Texts.{rising_number, group_bits, codes_of, kept, stripped}
 use Rattle.page_text.proofs.Groups.{bit_at}
 use Rattle.page_text.proofs.RunTogether.{length-flat_map, get_or-flat_map, length-pieces, get_or-pieces}
 

@@ -1,5 +1,5 @@
 -- The text of groups: their bits run together, cut into characters, without the blanks at the end.
-use Rattle.std.specs.Prelude.{ℕ, zero, suc, ◌+◌, ◌*◌, ◌/◌, ◌==◌, Bool, cond, List, [], ◌∷◌, length, map, flat_map, slice_index}
+use Rattle.std.specs.Prelude.{ℕ, ◌+◌, ◌*◌, ◌/◌, ◌==◌, Bool, cond, List, [], ◌∷◌, length, map, flat_map, slice_index}
 use Rattle.bits.specs.Bits.{bits_of, bit_value}
 use Rattle.codeword.specs.declared.functions.Function.{Function}
 use Rattle.codeword.specs.declared.functions.Function.TheVariants.{Numeric, Tone1, Tone2, Alpha}

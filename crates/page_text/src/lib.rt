@@ -13,15 +13,15 @@
 mod coding;
 pub mod faults;
 pub mod fitting;
-pub mod packing;
 pub mod laws;
 pub mod lines;
+pub mod packing;
 pub mod reader;
 
 pub use faults::TextFault;
 pub use fitting::fits;
-pub use packing::{group, word_count};
 pub use lines::line;
+pub use packing::{group, word_count};
 pub use reader::TextReader;
 
 #[cfg(test)]

@@ -1,3 +1,200 @@
-//! Worked texts, groups and lines.
+//! Worked texts, groups and printed lines.
+ghost use Rattle.std.specs.Prelude.{◌<◌, ◌^◌, IfSome};
 
 use super::*;
+use codeword::{Capcode, Function};
+use std::test::Fail;
+use wires::Failed;
+use wires::fakes::MemorySink;
+
+/// Group `k` of a text. None where the text doesn't fit or has no such group.
+fn carried(function: Function, text: &[u8], k: usize) -> Option<u32>
+    ensures { IfSome result (λ group. group < 2 ^ 20) }
+{
+    if text.len() <= 400 && fits(function, text).is_ok() && k < word_count(function, text.len()) {
+        Some(group(function, text, k))
+    } else {
+        None
+    }
+}
+
+#[test]
+fn groups_are_the_worked_ones(rt: HostRuntime) {
+    let table: [(Function, &[u8], &[u32]); 8] = [
+        (Function::Alpha, b"ABC", &[0x82870, 0x80000]),
+        (Function::Alpha, b"HELLO", &[0x1344C, 0x99F20]),
+        (Function::Alpha, b"A", &[0x82000]),
+        (Function::Alpha, b"A\r", &[0x83600]),
+        (Function::Alpha, b"", &[]),
+        (Function::Numeric, b"12", &[0x84333]),
+        (Function::Numeric, b"", &[]),
+        (Function::Tone1, b"", &[]),
+    ];
+    for (function, text, groups) in table {
+        for k in 0..groups.len() {
+            assert_eq!(rt; carried(function, text, k), Some(groups[k]));
+        }
+        assert_eq!(rt; carried(function, text, groups.len()), None);
+    }
+}
+
+#[test]
+fn a_text_fits_or_has_its_first_fault(rt: HostRuntime) {
+    let digits = [b'7'; 41];
+    let letters = [b'A'; 401];
+    let foreign_digits = [b'Z'; 41];
+    let foreign_letters = [0x7F; 401];
+    let table: [(Function, &[u8], Result<(), TextFault>); 26] = [
+        (Function::Tone1, b"", Ok(())),
+        (Function::Tone2, b"", Ok(())),
+        (Function::Tone1, b"1", Err(TextFault::NotEmpty)),
+        (Function::Tone2, &letters, Err(TextFault::NotEmpty)),
+        (Function::Numeric, b"", Ok(())),
+        (Function::Numeric, b"0123456789*U -][", Ok(())),
+        (Function::Numeric, &digits[..40], Ok(())),
+        (Function::Numeric, &digits, Err(TextFault::TooLong)),
+        (Function::Numeric, &foreign_digits, Err(TextFault::TooLong)),
+        (Function::Numeric, b"1A", Err(TextFault::Alphabet)),
+        (Function::Numeric, b"u", Err(TextFault::Alphabet)),
+        (Function::Numeric, b"12\r", Err(TextFault::Alphabet)),
+        (Function::Numeric, b"A ", Err(TextFault::Alphabet)),
+        (Function::Numeric, b"12 ", Err(TextFault::EndsInSpace)),
+        (Function::Numeric, b" ", Err(TextFault::EndsInSpace)),
+        (Function::Numeric, b" 12", Ok(())),
+        (Function::Alpha, b"", Ok(())),
+        (Function::Alpha, b" ~\r\n", Ok(())),
+        (Function::Alpha, b"A ", Ok(())),
+        (Function::Alpha, &letters[..400], Ok(())),
+        (Function::Alpha, &letters, Err(TextFault::TooLong)),
+        (Function::Alpha, &foreign_letters, Err(TextFault::TooLong)),
+        (Function::Alpha, b"A\x7F", Err(TextFault::Alphabet)),
+        (Function::Alpha, b"\x1F", Err(TextFault::Alphabet)),
+        (Function::Alpha, b"\0", Err(TextFault::Alphabet)),
+        (Function::Alpha, b"\xC1", Err(TextFault::Alphabet)),
+    ];
+    for (function, text, answer) in table {
+        assert_eq!(rt; fits(function, text), answer);
+    }
+}
+
+#[test]
+fn a_length_has_its_count_of_words(rt: HostRuntime) {
+    for (function, length, count) in [
+        (Function::Numeric, 0, 0),
+        (Function::Numeric, 5, 1),
+        (Function::Numeric, 6, 2),
+        (Function::Numeric, 40, 8),
+        (Function::Tone1, 0, 0),
+        (Function::Tone2, 9, 0),
+        (Function::Alpha, 0, 0),
+        (Function::Alpha, 2, 1),
+        (Function::Alpha, 3, 2),
+        (Function::Alpha, 400, 140),
+    ] {
+        if length <= 400 {
+            assert_eq!(rt; word_count(function, length), count);
+        }
+    }
+}
+
+#[test]
+fn four_hundred_letters_are_read_back_from_140_groups(rt: HostRuntime) {
+    let mut text = [b'A'; 400];
+    for i in 0..400 {
+        text[i] = 0x20 + (i % 95) as u8;
+    }
+    let mut reader = TextReader::new();
+    for k in 0..140 {
+        match carried(Function::Alpha, &text, k) {
+            Some(group) => assert!(rt; reader.push(group)),
+            None => assert!(rt; false, "no group {k}"),
+        }
+    }
+    assert!(rt; !reader.push(0x20000), "a group more was taken");
+    let mut into = [0xEE; 700];
+    let length = reader.text(Function::Alpha, &mut into);
+    assert_eq!(rt; &into[..length], text.as_slice());
+}
+
+#[test]
+fn groups_are_read_by_their_function(rt: HostRuntime) {
+    let table: [(Function, &[u32], &[u8]); 9] = [
+        (Function::Alpha, &[0x82870, 0x80000], b"ABC"),
+        (Function::Alpha, &[0x83600], b"A\r"),
+        (Function::Alpha, &[0x00000], b""),
+        (Function::Alpha, &[], b""),
+        (Function::Numeric, &[0x84333], b"12"),
+        (Function::Numeric, &[0x33333, 0x33333], b""),
+        (Function::Numeric, &[0x33338, 0x5D3BF], b"    1*U -["),
+        (Function::Tone1, &[0x82870], b""),
+        (Function::Tone2, &[0x84333], b""),
+    ];
+    let mut reader = TextReader::new();
+    for (function, groups, text) in table {
+        reader.start();
+        for group in groups {
+            if *group < 0x100000 {
+                assert!(rt; reader.push(*group));
+            }
+        }
+        let mut into = [0; 700];
+        let length = reader.text(function, &mut into);
+        assert_eq!(rt; &into[..length], text);
+    }
+}
+
+#[test]
+fn lines_are_printed(rt: HostRuntime) -> Result<(), Fail> {
+    let table: [(u32, Function, &[u8], &[u8]); 8] = [
+        (8, Function::Alpha, b"ABC", b"0000008 A ABC\n"),
+        (9, Function::Numeric, b"12", b"0000009 N 12\n"),
+        (9, Function::Numeric, b"", b"0000009 N \n"),
+        (15, Function::Tone1, b"", b"0000015 1 \n"),
+        (2_097_151, Function::Tone2, b"", b"2097151 2 \n"),
+        (8, Function::Alpha, b"A\rB", b"0000008 A A\\rB\n"),
+        (
+            1_234_567,
+            Function::Alpha,
+            b"a\\b\n~ \x7F",
+            b"1234567 A a\\\\b\\n~ \\x7F\n",
+        ),
+        (
+            8,
+            Function::Alpha,
+            b"\x00\xFF\x1F\xA0",
+            b"0000008 A \\x00\\xFF\\x1F\\xA0\n",
+        ),
+    ];
+    for (capcode, function, text, printed) in table {
+        let capcode = Capcode::of(capcode).expect(&rt, "a usable capcode");
+        let mut sink = MemorySink::new(rt.alloc(), 40, &[])?;
+        if text.len() <= 700 {
+            assert_eq!(rt; line(capcode, function, text, &mut sink), Ok(()));
+        }
+        assert_eq!(rt; sink.bytes(), printed);
+    }
+    Ok(())
+}
+
+#[test]
+fn the_longest_line_is_one_piece(rt: HostRuntime) -> Result<(), Fail> {
+    let capcode = Capcode::of(8).expect(&rt, "a usable capcode");
+    let mut sink = MemorySink::new(rt.alloc(), 2811, &[2])?;
+    assert_eq!(rt;
+        line(capcode, Function::Alpha, &[0; 700], &mut sink),
+        Ok(())
+    );
+    assert_eq!(rt; sink.bytes().len(), 2811);
+    Ok(())
+}
+
+#[test]
+fn a_line_fails_where_its_sink_does(rt: HostRuntime) -> Result<(), Fail> {
+    let capcode = Capcode::of(8).expect(&rt, "a usable capcode");
+    let mut sink = MemorySink::new(rt.alloc(), 40, &[1])?;
+    assert_eq!(rt;
+        line(capcode, Function::Alpha, b"ABC", &mut sink),
+        Err(Failed)
+    );
+    Ok(())
+}

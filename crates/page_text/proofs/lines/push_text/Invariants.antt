@@ -6,5 +6,5 @@ use Rattle.page_text.proofs.lines.push_text.Given as goal
 abbrev pub invariant-loop-c : goal.invariant-loop-c
 invariant-loop-c l = record {
   items : l.line.items ≡ l.initial.line.items ++ flat_map escaped (take l.c-index l.text);
-  few : length l.line.items ≤ length l.initial.line.items + 4 * l.c-index
+  few : length l.line.items ≤ length l.initial.line.items + 4 * l.c-index;
 }

@@ -1,4 +1,4 @@
-use Rattle.std.proofs.Common.{◌≡◌, ◌<◌, ℕ, length, map, subst, ap, ◌∙◌}
+use Rattle.std.proofs.Common.{◌<◌, ℕ, length, map, subst, ap, ◌∙◌}
 use Rattle.std.proofs.lemmas.List.{length-map}
 use Rattle.page_text.specs.Groups.{group_count, groups, numeric_code}
 use Rattle.page_text.proofs.Groups.{length-groups_of}

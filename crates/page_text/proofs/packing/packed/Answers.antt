@@ -1,4 +1,4 @@
-use Rattle.std.proofs.Common.{◌≡◌, ◌+◌, ◌*◌, ◌<◌, ◌≤◌, ◌++◌, Bool, List, ℕ, drop, length, replicate, take, subst, sym, ap, ap₂, ◌∙◌, arith}
+use Rattle.std.proofs.Common.{◌≡◌, ◌+◌, ◌*◌, ◌<◌, ◌++◌, Bool, List, ℕ, drop, length, replicate, take, subst, sym, ap, ap₂, ◌∙◌, arith}
 use Rattle.bits.specs.Bits.{number}
 use Rattle.bits.proofs.Numbers.{bit_value-lt}
 use Rattle.page_text.specs.Coding.{fill_of, text_codes, width_of}

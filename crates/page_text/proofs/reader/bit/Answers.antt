@@ -1,4 +1,4 @@
-use Rattle.std.proofs.Common.{◌-◌, ◌/◌, ◌%◌, ◌^◌, get_or, sym, ◌∙◌, arith}
+use Rattle.std.proofs.Common.{◌-◌, ◌/◌, ◌%◌, ◌^◌, get_or, sym, ◌∙◌}
 use Rattle.std.specs.Int.Bits.{and_mask}
 use Rattle.page_text.proofs.Texts.{bit_value-group_bits}
 use Rattle.page_text.proofs.reader.bit.Goals as goal

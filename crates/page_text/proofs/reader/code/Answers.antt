@@ -1,4 +1,4 @@
-use Rattle.std.proofs.Common.{◌≡◌, ◌+◌, ◌-◌, ◌*◌, ◌/◌, ◌<◌, ◌≤◌, Bool, List, ℕ, drop, length, take, subst, sym, ap, ◌∙◌, arith, mul_comm}
+use Rattle.std.proofs.Common.{◌≡◌, ◌+◌, ◌-◌, ◌*◌, Bool, List, drop, length, take, subst, sym, ap, ◌∙◌, arith}
 use Rattle.bits.proofs.Numbers.{bit_value-lt}
 use Rattle.page_text.specs.Texts.{group_bits, rising_number}
 use Rattle.page_text.proofs.Texts.{code-within, get_or-codes_of, length-group_bits, rising_number-step, rising_number-take-lt}
@@ -24,8 +24,8 @@ loop-i-preserved c =
     record {
       within = omega arith;
       value =
-        rising_number-step (group_bits c.args.groups.now) (c.args.width * c.args.k) c.args.width c.loop-i.i (c.loop-i.i - 1) c.loop-i.code c.bit.result
-        (omega arith) c.loop-i.invariant.within (omega (arith, length-group_bits c.args.groups.now, within)) c.loop-i.invariant.value c.bit.ensures;
+          rising_number-step (group_bits c.args.groups.now) (c.args.width * c.args.k) c.args.width c.loop-i.i (c.loop-i.i - 1) c.loop-i.code c.bit.result
+          (omega arith) c.loop-i.invariant.within (omega (arith, length-group_bits c.args.groups.now, within)) c.loop-i.invariant.value c.bit.ensures;
     }
 
 pub returns-clause-value : goal.returns-clause-value

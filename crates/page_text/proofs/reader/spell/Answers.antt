@@ -1,6 +1,6 @@
-use Rattle.std.proofs.Common.{◌≡◌, ◌+◌, ◌*◌, ◌/◌, ◌<◌, ℕ, List, get_or, length, take, refl, sym, ap, subst, ◌∙◌, arith}
+use Rattle.std.proofs.Common.{◌≡◌, ◌*◌, ◌/◌, ◌<◌, ℕ, List, get_or, length, take, sym, ap, ◌∙◌, arith}
 use Rattle.std.proofs.lemmas.List.{length-take, take-take}
-use Rattle.page_text.specs.Coding.{blank_of, character_of, characters_of, width_of}
+use Rattle.page_text.specs.Coding.{character_of, characters_of, width_of}
 use Rattle.page_text.specs.Texts.{codes_of, stripped}
 use Rattle.page_text.proofs.Codings.{get_or-characters_of, length-characters_of}
 use Rattle.page_text.proofs.Texts.{count-few, length-codes_of, take-more-set, take-whole}

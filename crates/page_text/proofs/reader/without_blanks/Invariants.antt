@@ -6,7 +6,7 @@ use Rattle.page_text.proofs.reader.without_blanks.Given as goal
 abbrev pub invariant-loop-left : goal.invariant-loop-left
 invariant-loop-left l = record {
   within : l.left ≤ length l.text;
-  same : stripped l.blank (take l.left l.text) ≡ stripped l.blank l.text
+  same : stripped l.blank (take l.left l.text) ≡ stripped l.blank l.text;
 }
 
 abbrev pub decreases-loop-left : goal.decreases-loop-left
