@@ -1,15 +1,14 @@
 -- The block that `one` reads, from what a scanner answers.
-use Rattle.std.proofs.Common.{◌≡◌, ◌≢◌, ℕ, zero, suc, ◌+◌, ◌<◌, ◌≤◌, min, Bool, true, false, List, [], ◌∷◌, ◌++◌, length, length-append, take, drop, get_or, Option, Some, None, is_some, refl, sym, ◌∙◌, ap, subst, append_assoc, append-nil, arith}
+use Rattle.std.proofs.Common.{◌≡◌, ◌≢◌, ℕ, zero, suc, ◌<◌, ◌≤◌, min, Bool, true, false, List, [], ◌∷◌, ◌++◌, length, length-append, take, drop, get_or, Option, Some, None, is_some, refl, sym, ◌∙◌, ap, subst, append_assoc, arith}
 use Rattle.std.specs.Option.{option_map, option_to_list}
 use Rattle.std.proofs.lemmas.List.{map-append, take_all}
 use Rattle.std.proofs.Math.Seq.{take-append_seam}
-use Rattle.tap_block.specs.declared.ends.End.{End}
-use Rattle.tap_block.specs.declared.ends.End.TheVariants.{Etx, Etb, Us}
+use Rattle.tap_block.specs.declared.ends.End.TheVariants.{Etx}
 use Rattle.tap_block.specs.declared.items.Item.{Item}
 use Rattle.tap_block.specs.declared.items.Item.TheVariants.{Block}
 use Rattle.tap_block.specs.Brief.{answer_of, BodyIs, Held, ReadsOn, StandsFor}
 use Rattle.tap_block.specs.Chars.{char_of, characters, etx, stx}
-use Rattle.tap_block.specs.Reading.{a_block, a_bye, AfterLogon, block, bye, dropped, empty_line, Entry, IsBody, IsPieceBefore, IsTrailer, is_right, items_of, line, logon, lone_eot, Piece, Reads, skipped, wrong_line}
+use Rattle.tap_block.specs.Reading.{a_block, a_bye, AfterLogon, block, bye, dropped, empty_line, Entry, IsBody, IsTrailer, is_right, items_of, line, logon, lone_eot, Piece, Reads, skipped, wrong_line}
 use Rattle.tap_block.proofs.LoneBlocks.{front_of_block, lone_reads, lone_trailer, no_pieces}
 use Rattle.tap_block.proofs.OneReading.{at_most_one}
 use Rattle.tap_block.proofs.WholeBlocks.{block_text}
@@ -57,7 +56,7 @@ pub stays_silent : (fed x body trailer : List ℕ) (c : ℕ) → fed ++ c ∷ []
 stays_silent fed x body trailer c e b l =
     let form = lone_form x body trailer l in
     let all : b.front ++ (b.behind ++ c ∷ []) ≡ (stx ∷ body) ++ etx ∷ trailer =
-        sym (append_assoc b.front b.behind (c ∷ [])) ∙ ap (λ (z : List ℕ). z ++ c ∷ []) (sym b.parts) ∙ e ∙ form.0 in
+    sym (append_assoc b.front b.behind (c ∷ [])) ∙ ap (λ (z : List ℕ). z ++ c ∷ []) (sym b.parts) ∙ e ∙ form.0 in
     let more : b.behind ++ c ∷ [] ≢ [] = λ k. omega (arith, ap length k, length-append b.behind (c ∷ [])) in
     let none = front_of_block body trailer b.front (b.behind ++ c ∷ []) form.1 form.2 all more in
     let empty = no_pieces b.scanner.password AfterLogon b.stands.pieces b.stands.rest b.front none b.stands.reads in
@@ -153,7 +152,7 @@ makes_block old new fed x body rest c right size po pn e before h small form k =
     let is : items_of new.password stands.pieces ≡ a_block body Etx right ∷ [] = sym stands.items_are ∙ items in
     let is_body : IsBody body = block_body new.password stands.pieces stands.rest x body right stands.reads is in
     let after : Reads None AfterLogon stands.pieces stands.rest ((stx ∷ body) ++ etx ∷ rest) =
-        subst (λ (z : List ℕ). Reads None AfterLogon stands.pieces stands.rest z) form (subst (λ (w : Option (List ℕ)). Reads w AfterLogon stands.pieces stands.rest x) pn stands.reads) in
+    subst (λ (z : List ℕ). Reads None AfterLogon stands.pieces stands.rest z) form (subst (λ (w : Option (List ℕ)). Reads w AfterLogon stands.pieces stands.rest x) pn stands.reads) in
     let earlier : Reads None AfterLogon before.pieces before.rest fed = subst (λ (w : Option (List ℕ)). Reads w AfterLogon before.pieces before.rest fed) po before.reads in
     let none : items_of None before.pieces ≡ [] = ap (λ (w : Option (List ℕ)). items_of w before.pieces) (sym po) ∙ sym before.items_are in
     let some : items_of None stands.pieces ≢ [] = λ z. (let y = ap (λ (w : Option (List ℕ)). items_of w stands.pieces) (sym pn) ∙ is in cc) in

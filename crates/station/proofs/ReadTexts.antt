@@ -1,11 +1,11 @@
 -- The text of a content: where there is none.
-use Rattle.std.proofs.Common.{◌≡◌, ℕ, Bool, true, false, List, Result, Ok, Err, refl, sym, ◌∙◌, ap, subst}
+use Rattle.std.proofs.Common.{◌≡◌, ℕ, true, false, List, Result, Ok, Err, refl, sym, ◌∙◌, subst}
 use Rattle.std.specs.Prelude.{IsOk, MatchResult}
 use Rattle.std.specs.Result.{is_err}
 use Rattle.codeword.specs.declared.functions.Function.TheVariants.{Alpha}
 use Rattle.page_text.specs.Fits.{Fits}
 use Rattle.tap_block.specs.declared.faults.FieldFault.{FieldFault}
-use Rattle.tap_block.specs.Fields.{AreParts, HasFault, HasFields, HasValue}
+use Rattle.tap_block.specs.Fields.{AreParts, HasFault, HasValue}
 use Rattle.tap_block.proofs.Parts.{same_parts}
 use Rattle.tap_block.proofs.Values.{fault_read, one_value, value_read}
 use Rattle.station.specs.LoneBlock.{HasText}

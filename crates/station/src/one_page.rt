@@ -34,7 +34,12 @@ fn to_characters(bytes: &mut [u8])
 /// most 250 characters; BadSum exactly where its trailer is wrong; BadText exactly where its content hasn't two fields with values,
 /// or the text isn't of 0x20 to 0x7E, CR and LF; OutFault where a write failed; else Done. They are judged in this order. Nothing is
 /// written where the block is refused. It takes no memory, and never answers Memory.
-pub fn one<I: Source, O: Sink>(alloc: Global, capcode: Capcode, input: &mut I, out: &mut O) -> Status
+pub fn one<I: Source, O: Sink>(
+    alloc: Global,
+    capcode: Capcode,
+    input: &mut I,
+    out: &mut O,
+) -> Status
     ensures { OneRow capcode (record { input = I.state input.old; out = O.state out.old }) (record { input = I.state input.new; out = O.state out.new }) result }
 {
     let _ = alloc;

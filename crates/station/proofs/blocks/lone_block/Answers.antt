@@ -1,4 +1,4 @@
-use Rattle.std.proofs.Common.{◌≡◌, [], ℕ, List, None, arith, sym, ◌∙◌, ap, length, subst, Option, Some, true, false}
+use Rattle.std.proofs.Common.{◌≡◌, [], ℕ, List, sym, ◌∙◌, length, subst, Option, Some, true, false}
 use Rattle.std.proofs.lemmas.Slice.Eq.{bytes_eq-Decides}
 use Rattle.tap_block.specs.Brief.{ReadsOn}
 use Rattle.tap_block.specs.declared.items.Item.{Item}
@@ -27,7 +27,7 @@ returns-in_default-short_block c body trailer l =
     let fed = fed_before c.args.chars.now c.in-Some.before.now c.in-Some.last.now c.requires c.in-Some.ensures.cases.0 in
     let stands = c.is_silent.ensures.silent c.if-not-is_silent.false c.blocks-scanner.ensures.stands in
     let answer = block_answer c.feed.new.self (characters c.in-Some.before.now) c.args.chars.now body trailer _ c.in-Some-feed.item
-        (c.feed.ensures.password ∙ (c.is_silent.ensures.password ∙ c.blocks-scanner.ensures.password)) fed (c.in-Some-feed.ensures.reads AfterLogon (characters c.in-Some.before.now) [] stands) l in
+    (c.feed.ensures.password ∙ (c.is_silent.ensures.password ∙ c.blocks-scanner.ensures.password)) fed (c.in-Some-feed.ensures.reads AfterLogon (characters c.in-Some.before.now) [] stands) l in
     c.in_default-short_block.ensures (length body) _ l.short answer
 
 pub returns-in_default-between : goal.returns-in_default-between
@@ -35,7 +35,7 @@ returns-in_default-between c body trailer l =
     let fed = fed_before c.args.chars.now c.in-Some.before.now c.in-Some.last.now c.requires c.in-Some.ensures.cases.0 in
     let stands = c.is_silent.ensures.silent c.if-not-is_silent.false c.blocks-scanner.ensures.stands in
     let answer = block_answer c.feed.new.self (characters c.in-Some.before.now) c.args.chars.now body trailer _ c.in-Some-feed.item
-        (c.feed.ensures.password ∙ (c.is_silent.ensures.password ∙ c.blocks-scanner.ensures.password)) fed (c.in-Some-feed.ensures.reads AfterLogon (characters c.in-Some.before.now) [] stands) l in
+    (c.feed.ensures.password ∙ (c.is_silent.ensures.password ∙ c.blocks-scanner.ensures.password)) fed (c.in-Some-feed.ensures.reads AfterLogon (characters c.in-Some.before.now) [] stands) l in
     let same = size_is _ _ _ _ (sym answer ∙ c.in-Some-short_block.ensures.0) in
     c.in_default-between.ensures body trailer (lone_form c.args.chars.now body trailer l).0 same.1
 
@@ -45,7 +45,7 @@ returns-then-eq c =
     let stands = c.is_silent.ensures.silent c.if-not-is_silent.false c.blocks-scanner.ensures.stands in
     let passwords = c.is_silent.ensures.password ∙ c.blocks-scanner.ensures.password in
     let reads = subst (λ (i : Item). ReadsOn AfterLogon c.feed.new.self (characters c.in-Some.before.now) [] (char_of c.in-Some.last.now) (Some i)) c.in-Some-short_block.ensures.0
-        (c.in-Some-feed.ensures.reads AfterLogon (characters c.in-Some.before.now) [] stands) in
+    (c.in-Some-feed.ensures.reads AfterLogon (characters c.in-Some.before.now) [] stands) in
     makes_block c.is_silent.new.scanner c.feed.new.self (characters c.in-Some.before.now) c.args.chars.now c.in-Some-between.body.now c.in-Some-between.ensures.0 _
     c.in-Some-short_block.right c.in-Some-short_block.size passwords (c.feed.ensures.password ∙ passwords) fed stands reads c.in-Some-short_block.ensures.1 c.in-Some-between.ensures.1
     ((bytes_eq-Decides c.in-Some-between.body.now c.body.result.now).0 (sym c.eq.ensures ∙ c.if-eq.true) ∙ c.body.ensures.value)

@@ -1,5 +1,4 @@
-use Rattle.std.proofs.Common.{sym, ◌∙◌, ap, subst, arith, length, length-append, ◌∷◌, ◌++◌, [], take, true, false, IsTrue}
-use Rattle.std.specs.Result.{is_err, is_ok}
+use Rattle.std.proofs.Common.{sym, ◌∙◌, ap, arith, length, length-append, ◌∷◌, ◌++◌, [], take}
 use Rattle.tap_block.specs.Chars.{cr}
 use Rattle.tap_block.specs.Fields.{HasFault, HasValue}
 use Rattle.station.proofs.ReadTexts.{failed_with, held_with, no_first, no_fit, no_second_value, not_ok, ok_of}
@@ -21,9 +20,11 @@ returns-then-is_err-2 c text h =
 
 pub returns : goal.returns
 returns c =
-    let id = held_with c.unescape.result (λ n. HasValue c.in-Some.id.now (take n c.unescape.new.into)) _ (sym c.is_err.ensures.value ∙ c.if-is_err.false) c.unescape.ensures.value in
-    (record {
-       id = take id.0 c.unescape.new.into;
-       fields = record { first = c.in-Some.id.now; second = c.in-Some.text.now; parts = c.in-Some.ensures; id_is = id.1; text_is = c.in-Ok.ensures.value };
-       fits = c.fits.ensures.fits.0 (ok_of c.fits.result (sym c.is_err-2.ensures.value ∙ c.if-is_err-2.false));
-     }, omega (arith, c.in-Ok.ensures.fits, ap length c.in-Some.ensures.form, length-append c.in-Some.id.now (cr ∷ (c.in-Some.text.now ++ cr ∷ [])), length-append c.in-Some.text.now (cr ∷ [])))
+    let id = held_with c.unescape.result (λ n. HasValue c.in-Some.id.now (take n c.unescape.new.into)) _ (sym c.is_err.ensures.value ∙ c.if-is_err.false) c.unescape.ensures.value in (
+      record {
+        id = take id.0 c.unescape.new.into;
+        fields = record { first = c.in-Some.id.now; second = c.in-Some.text.now; parts = c.in-Some.ensures; id_is = id.1; text_is = c.in-Ok.ensures.value };
+        fits = c.fits.ensures.fits.0 (ok_of c.fits.result (sym c.is_err-2.ensures.value ∙ c.if-is_err-2.false));
+      },
+      omega (arith, c.in-Ok.ensures.fits, ap length c.in-Some.ensures.form, length-append c.in-Some.id.now (cr ∷ (c.in-Some.text.now ++ cr ∷ [])), length-append c.in-Some.text.now (cr ∷ [])),
+    )
