@@ -1,6 +1,7 @@
 -- The rules of the entries.
 use Rattle.std.specs.Prelude.{ℕ, suc, ◌^◌, ℤ, pos, negsuc, Bool, not, ◌&&◌, ◌==◌, nat_lt, nat_le, List, [], ◌∷◌, map, length, codes, Option, Some, None, Result, Ok, Err, if◌then◌else◌}
 use Rattle.std.specs.List.{list_all, list_any}
+use Rattle.std.specs.FinMap.{from_entries}
 use Rattle.std.specs.Str.{bytes_eq}
 use Rattle.codeword.specs.Capcodes.{high_of, idle_high, sync_high}
 use Rattle.codeword.specs.declared.functions.Function.{Function}
@@ -9,6 +10,7 @@ use Rattle.subscribers.specs.declared.faults.SettingsFault.{SettingsFault}
 use Rattle.subscribers.specs.declared.faults.SettingsFault.TheVariants.{Id, IdTwice, Capcode, Class}
 use Rattle.subscribers.specs.declared.subscriber.Subscriber.{Subscriber}
 use Rattle.subscribers.specs.Form.{Entry}
+use Rattle.subscribers.specs.Parts.{Ids}
 
 -- A character from one to another.
 abbrev pub is_between : ℕ → ℕ → ℕ → Bool
@@ -83,3 +85,11 @@ all_or_first_fault (r ∷ rs) = joined r (all_or_first_fault rs)
 -- What the entries add to the map of ids, in their order, or the fault of the first faulty entry.
 unfoldable pub listed_all : List Entry → Result (List Listed) SettingsFault
 listed_all es = all_or_first_fault (map listed (places es))
+
+-- The finite map of the entries, or the fault of the first faulty entry.
+abbrev pub map_of : Result (List Listed) SettingsFault → Result Ids SettingsFault
+map_of (Ok ids) = Ok (from_entries ids)
+map_of (Err fault) = Err fault
+
+abbrev pub ids_of : List Entry → Result Ids SettingsFault
+ids_of es = map_of (listed_all es)
