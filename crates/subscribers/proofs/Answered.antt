@@ -1,16 +1,16 @@
 -- The answer of `read`, by what each of its steps answers.
-use Rattle.std.proofs.Common.{◌≡◌, ℕ, ℤ, ◌<◌, ◌≤◌, ◌⊎◌, Bool, true, false, cond, nat_lt, List, length, Option, Some, None, Result, Ok, Err, inl, inr, ⊎_elim, arith, refl, sym, ap, subst, ◌∙◌}
+use Rattle.std.proofs.Common.{◌≡◌, ℕ, ◌<◌, ◌≤◌, Bool, true, false, cond, nat_lt, List, length, Option, Some, None, Result, Ok, Err, inl, inr, ⊎_elim, arith, refl, sym, ap}
 use Rattle.std.proofs.lemmas.Bool.Decides.{nat_tests}
 use Rattle.toml.specs.Data.{Members}
 use Rattle.toml.specs.Parse.{parse_document}
 use Rattle.std.proofs.lemmas.Str.{IsUtf8-from_is_utf8, is_utf8-from_IsUtf8}
 use Rattle.std.specs.Str.{IsUtf8, is_utf8}
 use Rattle.subscribers.specs.declared.faults.SettingsFault.{SettingsFault}
-use Rattle.subscribers.specs.declared.faults.SettingsFault.TheVariants.{Long, NotToml, Form as FormFault, Password, Cells, TooMany, Memory}
+use Rattle.subscribers.specs.declared.faults.SettingsFault.TheVariants.{Long, NotToml, Password, Cells, TooMany}
 use Rattle.subscribers.specs.Entries.{ids_of}
-use Rattle.subscribers.specs.Form.{Form, form_of}
+use Rattle.subscribers.specs.Form.{Form}
 use Rattle.subscribers.specs.Parts.{Ids, Parts}
-use Rattle.subscribers.specs.Settings.{most_bytes, most_entries, is_password_or_none, cells_of, parts_of, with_cells, settings_of_form, settings_of_tree, of_form, of_tree, tree_of, settings_of, IsOrMemory}
+use Rattle.subscribers.specs.Settings.{most_bytes, most_entries, is_password_or_none, cells_of, parts_of, with_cells, settings_of_form, settings_of_tree, of_tree, tree_of, settings_of, IsOrMemory}
 
 -- A test that is decided.
 above : (a b : ℕ) → a < b → nat_lt a b ≡ true

@@ -1,7 +1,6 @@
 -- The entries of the ordered map of ids, as the finite map that they stand for.
-use Rattle.std.proofs.Common.{◌≡◌, ℕ, cond, List, [], ◌∷◌, map, Option, Some, Vec, Global, Ordering, Less, Equal, Greater, nat_cmp, refl, sym, ap, ◌∙◌}
+use Rattle.std.proofs.Common.{◌≡◌, ℕ, cond, List, [], ◌∷◌, map, Some, Vec, Global, Ordering, Less, Equal, Greater, nat_cmp, refl, sym, ap, ◌∙◌}
 use Rattle.std.specs.BTreeMap.{insert_entry, is_at}
-use Rattle.std.specs.Cmp.{nat_cmp_total}
 use Rattle.std.specs.Cmp.Lexicographic.{slice_cmp, nat_list_cmp_total}
 use Rattle.std.specs.FinMap.{from_entries, insert, get-from_entries, get-insert, same_map, slice_cmp-IsAntisymmetric, nat_cmp-IsAntisymmetric}
 use Rattle.std.specs.FinMap.Entries.{find, put, find-put, by_order}
@@ -43,8 +42,8 @@ seen-insert_entry (e ∷ es) k v =
 pub inserted : (es : List Stored) (k : Vec ℕ Global) (v : Subscriber) → (let m : Ids = from_entries (seen (insert_entry (λ x y. slice_cmp nat_cmp x.items y.items) es k v)) in m) ≡ insert (from_entries (seen es)) k.items v
 inserted es k v =
     same_map nat_list_cmp_total (slice_cmp-IsAntisymmetric nat_cmp-IsAntisymmetric) _ _ (λ q.
-      get-from_entries nat_list_cmp_total _ q
-      ∙ ap (find id_cmp q) (seen-insert_entry es k v)
-      ∙ find-put id_cmp nat_list_cmp_total q k.items v (seen es)
-      ∙ ap (cond (eq_by_cmp id_cmp q k.items) (Some v)) (sym (get-from_entries nat_list_cmp_total (seen es) q))
-      ∙ sym (get-insert nat_list_cmp_total (from_entries (seen es)) k.items v q))
+    get-from_entries nat_list_cmp_total _ q
+    ∙ ap (find id_cmp q) (seen-insert_entry es k v)
+    ∙ find-put id_cmp nat_list_cmp_total q k.items v (seen es)
+    ∙ ap (cond (eq_by_cmp id_cmp q k.items) (Some v)) (sym (get-from_entries nat_list_cmp_total (seen es) q))
+    ∙ sym (get-insert nat_list_cmp_total (from_entries (seen es)) k.items v q))

@@ -1,6 +1,6 @@
 -- The form of a file and of an entry, by what stands at their keys.
-use Rattle.std.proofs.Common.{◌≡◌, ℕ, ℤ, Bool, true, false, List, [], ◌∷◌, ◌++◌, codes, Option, Some, None, option_map, option_and_then, unwrap_or, append_assoc, refl, ap, ◌∙◌}
-use Rattle.toml.specs.Data.{Data, Items, no_items, item, Members, get_member, as_str, as_integer, as_array}
+use Rattle.std.proofs.Common.{◌≡◌, ℕ, ℤ, true, false, List, [], ◌∷◌, ◌++◌, codes, Option, Some, None, option_map, option_and_then, unwrap_or, append_assoc, refl, ap}
+use Rattle.toml.specs.Data.{Data, Items, item, Members, get_member, as_str, as_integer, as_array}
 use Rattle.subscribers.specs.Form.{Entry, Form, file_keys, entry_keys, has_only, required, optional, entry_in, entry_of, entries_of, array_of, form_of}
 
 module _ (ms : Members) where

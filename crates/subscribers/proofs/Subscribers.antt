@@ -1,5 +1,5 @@
 -- The subscriber of an entry, or its fault, by the parts of the entry.
-use Rattle.std.proofs.Common.{◌≡◌, ℕ, Bool, true, false, Option, Some, None, Ok, Err, refl}
+use Rattle.std.proofs.Common.{◌≡◌, ℕ, Bool, true, false, Some, None, Ok, Err}
 use Rattle.codeword.specs.declared.functions.Function.{Function}
 use Rattle.subscribers.specs.Entries.{is_id, capcode_of, function_of, subscriber_of}
 use Rattle.subscribers.specs.Form.{Entry}

@@ -1,5 +1,5 @@
 -- One turn of the loop over the entries that were read.
-use Rattle.std.proofs.Common.{◌≡◌, ℕ, suc, ◌+◌, ◌<◌, List, [], ◌∷◌, ◌++◌, map, length, get_or, take, drop, true, false, Result, Ok, Err, OnOk, is_some, is_err, pos, arith, refl, sym, ap, ◌∙◌}
+use Rattle.std.proofs.Common.{◌≡◌, ℕ, suc, ◌+◌, ◌<◌, List, [], ◌∷◌, ◌++◌, length, get_or, take, drop, false, Result, Ok, Err, OnOk, is_some, is_err, pos, arith, sym, ap, ◌∙◌}
 use Rattle.std.proofs.lemmas.List.{map-append, take-append-drop, length-take, length-map}
 use Rattle.std.proofs.Math.Seq.{take-suc, drop-cons}
 use Rattle.std.specs.FinMap.{get, insert}
@@ -7,7 +7,6 @@ use Rattle.subscribers.specs.declared.document.Entry.{Entry as EntryRead}
 use Rattle.subscribers.specs.declared.faults.SettingsFault.{SettingsFault}
 use Rattle.subscribers.specs.declared.subscriber.Subscriber.{Subscriber}
 use Rattle.subscribers.specs.Entries.{subscriber_of, ids_of}
-use Rattle.subscribers.specs.Form.{Entry}
 use Rattle.subscribers.specs.Parts.{Ids}
 use Rattle.subscribers.specs.Seen.{seen_entry, seen_entries}
 use Rattle.subscribers.proofs.Ids.{ids_of-more, ids_of-fault}

@@ -52,10 +52,10 @@ o >>= f = option_and_then f o
 unfoldable pub entry_in : Members → Option Entry
 entry_in ms =
     if has_only entry_keys ms then
-      required as_str (codes "id") ms >>= (λ i.
-      required as_integer (codes "capcode") ms >>= (λ c.
-      required as_str (codes "class") ms >>= (λ s.
-      Some (record { id = i; capcode = c; class = s }))))
+    required as_str (codes "id") ms >>= (λ i.
+    required as_integer (codes "capcode") ms >>= (λ c.
+    required as_str (codes "class") ms >>= (λ s.
+    Some (record { id = i; capcode = c; class = s }))))
     else None
 
 abbrev pub entry_of : Data → Option Entry
@@ -74,8 +74,8 @@ array_of d = as_array d >>= entries_of
 unfoldable pub form_of : Members → Option Form
 form_of ms =
     if has_only file_keys ms then
-      required as_integer (codes "cells") ms >>= (λ c.
-      optional as_str (codes "password") ms >>= (λ p.
-      optional array_of (codes "subscriber") ms >>= (λ es.
-      Some (record { cells = c; password = p; entries = unwrap_or es [] }))))
+    required as_integer (codes "cells") ms >>= (λ c.
+    optional as_str (codes "password") ms >>= (λ p.
+    optional array_of (codes "subscriber") ms >>= (λ es.
+    Some (record { cells = c; password = p; entries = unwrap_or es [] }))))
     else None

@@ -21,4 +21,4 @@ pub record Parts : Type 0 where
 abbrev pub parts_code : Coded Parts
 parts_code =
     code_by (ℕ × (Option (List ℕ) × Ids)) (coded× coded_ℕ (coded× (coded_option (coded_list coded_ℕ)) (code (coded_list coded_ℕ) the_row.coded)))
-      (λ p. (p.cells, (p.password, p.ids))) (λ t. record { cells = t.0; password = t.1.0; ids = t.1.1 }) (λ _. refl)
+    (λ p. (p.cells, (p.password, p.ids))) (λ t. record { cells = t.0; password = t.1.0; ids = t.1.1 }) (λ _. refl)

@@ -1,6 +1,5 @@
 -- What the crate's own structs of the document stand for.
-use Rattle.std.specs.Prelude.{ℕ, List, map, Option, option_map, Vec}
-use Rattle.std.specs.declared.alloc.Global.{Global}
+use Rattle.std.specs.Prelude.{List, map, option_map}
 use Rattle.subscribers.specs.declared.document.Entry.{Entry as EntryRead}
 use Rattle.subscribers.specs.declared.document.Document.{Document}
 use Rattle.subscribers.specs.Form.{Entry, Form}

@@ -20,7 +20,6 @@ impl Model for Directory {
     ghost use Rattle.std.specs.Ordering.{nat_cmp};
     ghost use Rattle.std.specs.Cmp.Lexicographic.{slice_cmp};
     ghost use Rattle.subscribers.specs.declared.subscriber.Subscriber.{Subscriber};
-
     ghost use Rattle.subscribers.specs.contracts.subscriber.Subscriber as subscriber;
     ghost use Rattle.std.specs.Coded.{coded_ℕ, coded_list};
 
@@ -49,7 +48,12 @@ impl Directory {
     }
 
     /// Adds an id with its subscriber. Where there is no memory, the map stays as it was.
-    pub fn insert(&mut self, alloc: Global, id: &[u8], subscriber: Subscriber) -> Result<(), AllocError>
+    pub fn insert(
+        &mut self,
+        alloc: Global,
+        id: &[u8],
+        subscriber: Subscriber,
+    ) -> Result<(), AllocError>
         ensures ok { OnOk result (self.new ≡ map.insert self.old id.now subscriber) }
         ensures err { OnErr result (self.new ≡ self.old) }
     {

@@ -4,7 +4,6 @@ ghost use Rattle.std.specs.Prelude.{◌≡◌, ◌≤◌, ◌⊎◌, Some, None,
 ghost use Rattle.toml.specs.View.{table_view};
 ghost use Rattle.subscribers.specs.Seen.{seen_document};
 ghost use Rattle.subscribers.specs.Settings.{is_password, is_password_or_none, cells_of, settings_of_form, settings_of_tree, tree_of, settings_of, IsOrMemory};
-
 ghost use Rattle.std.specs.List.{list_all};
 ghost use Rattle.subscribers.specs.Entries.{is_between};
 

@@ -48,7 +48,9 @@ fn fault(alloc: Global, file: &[u8]) -> Option<SettingsFault> {
 fn numbered(alloc: Global, cells: u32, count: u32, class: &str) -> Result<String, AllocError> {
     let mut file = format!(in alloc; "cells = {cells}\n")?;
     for id in 0..count {
-        let entry = format!(in alloc; "[[subscriber]]\nid = \"{id}\"\ncapcode = 8\nclass = \"{class}\"\n")?;
+        let entry = format!(in alloc;
+            "[[subscriber]]\nid = \"{id}\"\ncapcode = 8\nclass = \"{class}\"\n"
+        )?;
         file.push_str(entry.as_str())?;
     }
     Ok(file)
@@ -57,7 +59,7 @@ fn numbered(alloc: Global, cells: u32, count: u32, class: &str) -> Result<String
 /// A file of this many bytes: one line, and then spaces.
 fn filled(alloc: Global, line: &str, size: usize) -> Result<Vec<u8>, AllocError> {
     let mut file = Vec::from_slice(alloc, line.as_bytes())?;
-    while file.len() < size {
+    for _ in line.len()..size {
         file.push(b' ')?;
     }
     Ok(file)
@@ -97,7 +99,11 @@ fn documents_are_refused_by_their_form(rt: HostRuntime) {
         "cells = 64\nsubscriber = [{id = \"x\", capcode = 8, class = \"alpha\"}, 5]",
         "cells = 0\npassword = \"ab\"\nextra = 1",
     ] {
-        assert_eq!(rt; fault(rt.alloc(), file.as_bytes()), Some(SettingsFault::Form), "{file}");
+        assert_eq!(rt;
+            fault(rt.alloc(), file.as_bytes()),
+            Some(SettingsFault::Form),
+            "{file}"
+        );
     }
 }
 
@@ -118,19 +124,43 @@ fn texts_that_are_no_documents_are_refused(rt: HostRuntime) {
 #[test]
 fn passwords_and_cells_have_their_ranges(rt: HostRuntime) {
     for (file, wanted) in [
-        ("cells = 64\npassword = \"ab\"", Some(SettingsFault::Password)),
-        ("cells = 64\npassword = \"abcde\"", Some(SettingsFault::Password)),
-        ("cells = 64\npassword = \"abcdefg\"", Some(SettingsFault::Password)),
-        ("cells = 64\npassword = \"abc ef\"", Some(SettingsFault::Password)),
-        ("cells = 64\npassword = \"abcde\\u007F\"", Some(SettingsFault::Password)),
-        ("cells = 64\npassword = \"abcd\\u00E9\"", Some(SettingsFault::Password)),
+        (
+            "cells = 64\npassword = \"ab\"",
+            Some(SettingsFault::Password),
+        ),
+        (
+            "cells = 64\npassword = \"abcde\"",
+            Some(SettingsFault::Password),
+        ),
+        (
+            "cells = 64\npassword = \"abcdefg\"",
+            Some(SettingsFault::Password),
+        ),
+        (
+            "cells = 64\npassword = \"abc ef\"",
+            Some(SettingsFault::Password),
+        ),
+        (
+            "cells = 64\npassword = \"abcde\\u007F\"",
+            Some(SettingsFault::Password),
+        ),
+        (
+            "cells = 64\npassword = \"abcd\\u00E9\"",
+            Some(SettingsFault::Password),
+        ),
         ("cells = 64\npassword = \"!~!~!~\"", None),
-        ("cells = 0\npassword = \"ab\"", Some(SettingsFault::Password)),
+        (
+            "cells = 0\npassword = \"ab\"",
+            Some(SettingsFault::Password),
+        ),
         ("cells = 0", Some(SettingsFault::Cells)),
         ("cells = -1", Some(SettingsFault::Cells)),
         ("cells = 65537", Some(SettingsFault::Cells)),
         ("cells = 4294967297", Some(SettingsFault::Cells)),
-        ("cells = 0\nsubscriber = [{id = \"\", capcode = 8, class = \"alpha\"}]", Some(SettingsFault::Cells)),
+        (
+            "cells = 0\nsubscriber = [{id = \"\", capcode = 8, class = \"alpha\"}]",
+            Some(SettingsFault::Cells),
+        ),
         ("cells = 1", None),
         ("cells = 65536", None),
         ("\"cells\" = 0x40\nsubscriber = []", None),
@@ -142,19 +172,55 @@ fn passwords_and_cells_have_their_ranges(rt: HostRuntime) {
 #[test]
 fn the_first_faulty_entry_is_named(rt: HostRuntime) -> Result<(), Fail> {
     for (entries, wanted) in [
-        ("{id = \"12a\", capcode = 8, class = \"alpha\"}", Some(SettingsFault::Id(1))),
-        ("{id = \"\", capcode = 8, class = \"alpha\"}", Some(SettingsFault::Id(1))),
-        ("{id = \"12345678901\", capcode = 8, class = \"alpha\"}", Some(SettingsFault::Id(1))),
-        ("{id = \"1234567890\", capcode = 8, class = \"alpha\"}", None),
+        (
+            "{id = \"12a\", capcode = 8, class = \"alpha\"}",
+            Some(SettingsFault::Id(1)),
+        ),
+        (
+            "{id = \"\", capcode = 8, class = \"alpha\"}",
+            Some(SettingsFault::Id(1)),
+        ),
+        (
+            "{id = \"12345678901\", capcode = 8, class = \"alpha\"}",
+            Some(SettingsFault::Id(1)),
+        ),
+        (
+            "{id = \"1234567890\", capcode = 8, class = \"alpha\"}",
+            None,
+        ),
         ("{id = \"1\", capcode = 8, class = \"alpha\"}", None),
-        ("{id = \"1\", capcode = 8, class = \"alpha\"}, {id = \"1\", capcode = 8, class = \"tone1\"}", Some(SettingsFault::IdTwice(2))),
-        ("{id = \"1\", capcode = 8, class = \"alpha\"}, {id = \"01\", capcode = 8, class = \"alpha\"}", None),
-        ("{id = \"1\", capcode = 8, class = \"alpha\"}, {id = \"1\", capcode = -1, class = \"beta\"}", Some(SettingsFault::IdTwice(2))),
-        ("{id = \"1\", capcode = 8, class = \"beta\"}", Some(SettingsFault::Class(1))),
-        ("{id = \"1\", capcode = 8, class = \"Alpha\"}", Some(SettingsFault::Class(1))),
-        ("{id = \"1\", capcode = -1, class = \"beta\"}", Some(SettingsFault::Capcode(1))),
-        ("{id = \"1\", capcode = 8, class = \"beta\"}, {id = \"12a\", capcode = 8, class = \"alpha\"}", Some(SettingsFault::Class(1))),
-        ("{id = \"1\", capcode = 8, class = \"alpha\"}, {id = \"x\", capcode = -1, class = \"alpha\"}", Some(SettingsFault::Id(2))),
+        (
+            "{id = \"1\", capcode = 8, class = \"alpha\"}, {id = \"1\", capcode = 8, class = \"tone1\"}",
+            Some(SettingsFault::IdTwice(2)),
+        ),
+        (
+            "{id = \"1\", capcode = 8, class = \"alpha\"}, {id = \"01\", capcode = 8, class = \"alpha\"}",
+            None,
+        ),
+        (
+            "{id = \"1\", capcode = 8, class = \"alpha\"}, {id = \"1\", capcode = -1, class = \"beta\"}",
+            Some(SettingsFault::IdTwice(2)),
+        ),
+        (
+            "{id = \"1\", capcode = 8, class = \"beta\"}",
+            Some(SettingsFault::Class(1)),
+        ),
+        (
+            "{id = \"1\", capcode = 8, class = \"Alpha\"}",
+            Some(SettingsFault::Class(1)),
+        ),
+        (
+            "{id = \"1\", capcode = -1, class = \"beta\"}",
+            Some(SettingsFault::Capcode(1)),
+        ),
+        (
+            "{id = \"1\", capcode = 8, class = \"beta\"}, {id = \"12a\", capcode = 8, class = \"alpha\"}",
+            Some(SettingsFault::Class(1)),
+        ),
+        (
+            "{id = \"1\", capcode = 8, class = \"alpha\"}, {id = \"x\", capcode = -1, class = \"alpha\"}",
+            Some(SettingsFault::Id(2)),
+        ),
     ] {
         let file = format!(in rt.alloc(); "cells = 64\nsubscriber = [{entries}]")?;
         assert_eq!(rt; fault(rt.alloc(), file.as_bytes()), wanted, "{entries}");
@@ -179,7 +245,9 @@ fn capcodes_beside_the_reserved_ones_are_taken(rt: HostRuntime) -> Result<(), Fa
         (4_294_967_304, Some(SettingsFault::Capcode(1))),
         (-1, Some(SettingsFault::Capcode(1))),
     ] {
-        let file = format!(in rt.alloc(); "cells = 1\nsubscriber = [{{id = \"1\", capcode = {capcode}, class = \"alpha\"}}]")?;
+        let file = format!(in rt.alloc();
+            "cells = 1\nsubscriber = [{{id = \"1\", capcode = {capcode}, class = \"alpha\"}}]"
+        )?;
         assert_eq!(rt; fault(rt.alloc(), file.as_bytes()), wanted, "{capcode}");
     }
     Ok(())
@@ -229,7 +297,9 @@ fn ids_are_found(rt: HostRuntime) -> Result<(), Fail> {
         ("16", 16, Function::Tone1),
         ("7", 15, Function::Alpha),
     ] {
-        let found = settings.find(id.as_bytes()).map(|s| (s.capcode.number(), s.function));
+        let found = settings
+            .find(id.as_bytes())
+            .map(|s| (s.capcode.number(), s.function));
         assert_eq!(rt; found, Some((capcode, function)), "{id}");
     }
     for id in ["", "5551235", "555123", "55512340", "08"] {

@@ -1,4 +1,4 @@
-use Rattle.std.proofs.Common.{sym, ap, ◌∙◌}
+use Rattle.std.proofs.Common.{ap, ◌∙◌}
 use Rattle.std.specs.Prelude.{option_and_then}
 use Rattle.toml.specs.Data.{as_integer}
 use Rattle.subscribers.specs.Form.{required}

@@ -1,4 +1,4 @@
-use Rattle.std.proofs.Common.{Some, option_map, sym, ap, ◌∙◌}
+use Rattle.std.proofs.Common.{Some, option_map, ap, ◌∙◌}
 use Rattle.toml.specs.Data.{as_str}
 use Rattle.subscribers.specs.Form.{optional, of_kind}
 use Rattle.subscribers.proofs.document.text_or_none_at.Goals as goal

@@ -15,7 +15,7 @@ returns-in-Err c =
     let k = c.loop-k.k in
     let twice = c.is_some-twice.ensures ∙ ap is_some (c.find.ensures ∙ ap (get c.loop-k.directory) c.as_bytes-id.ensures.value) in
     inr (turn-fault xs k no_entry c.loop-k.directory c.loop-k-test.true c.in-Err.fault c.loop-k.invariant
-      (c.in-Err.ensures ∙ ap (λ t. subscriber_of (k + 1) t (seen_entry (get_or xs k no_entry))) twice))
+    (c.in-Err.ensures ∙ ap (λ t. subscriber_of (k + 1) t (seen_entry (get_or xs k no_entry))) twice))
 
 pub loop-k-preserved : goal.loop-k-preserved
 loop-k-preserved c =
@@ -24,5 +24,5 @@ loop-k-preserved c =
     let twice = c.is_some-twice.ensures ∙ ap is_some (c.find.ensures ∙ ap (get c.loop-k.directory) c.as_bytes-id.ensures.value) in
     let added : c.insert.new.self ≡ insert c.loop-k.directory c.as_bytes-id.result.now c.in-Ok.subscriber = when_ok _ _ c.if-is_err.ensures.value c.insert.ensures.ok in
     turn-more xs k no_entry c.loop-k.directory c.loop-k-test.true c.in-Ok.subscriber c.loop-k.invariant
-      (c.in-Ok.ensures ∙ ap (λ t. subscriber_of (k + 1) t (seen_entry (get_or xs k no_entry))) twice)
+    (c.in-Ok.ensures ∙ ap (λ t. subscriber_of (k + 1) t (seen_entry (get_or xs k no_entry))) twice)
     ∙ ap Ok (sym (added ∙ ap (λ i. insert c.loop-k.directory i c.in-Ok.subscriber) c.as_bytes-id.ensures.value))

@@ -1,11 +1,9 @@
-use Rattle.std.proofs.Common.{◌≡◌, ◌<◌, ◌≤◌, length, Ok, Err, Result, SFits, w64, option_map, inl, inr, ⊎_elim, sym, ap, arith, rules, ◌∙◌}
+use Rattle.std.proofs.Common.{◌<◌, ◌≤◌, length, SFits, w64, inl, inr, ⊎_elim, ap, arith, rules, ◌∙◌}
 use Rattle.std.proofs.lemmas.Int.{to_z-of_z}
 use Rattle.std.proofs.lemmas.List.{length-map}
-use Rattle.subscribers.specs.declared.faults.SettingsFault.{SettingsFault}
 use Rattle.subscribers.specs.Entries.{ids_of}
-use Rattle.subscribers.specs.Parts.{Parts}
 use Rattle.subscribers.specs.Seen.{seen_entry, seen_entries, seen_document}
-use Rattle.subscribers.specs.Settings.{parts_of, IsOrMemory, settings_of_form}
+use Rattle.subscribers.specs.Settings.{parts_of}
 use Rattle.subscribers.proofs.Answered.{password_true, refused_password, refused_cells, refused_many, from_ids, made_ids, refused_ids}
 use Rattle.subscribers.proofs.settings.settings_from.Goals as goal
 
@@ -30,8 +28,8 @@ returns-in-Ok-directory_from c =
     let few : length (seen_entries c.args.document.now.entries.items) ≤ 10000 = omega (arith, length-map c.args.document.now.entries.items seen_entry, c.args.document.now.entries.ok.0) in
     let p = password_true _ _ _ c.in-Ok.ensures in
     inr (ap (parts_of c.in-Some.cells c.in-Ok.password) (made_ids _ _ c.in-Ok-directory_from.ensures ∙ ap (λ es. ids_of (seen_entries es)) c.deref.ensures.value)
-      ∙ ap (λ q. parts_of c.in-Some.cells q (ids_of form.entries)) p.1
-      ∙ from_ids form _ p.0 (rw (to_z-of_z w64 c.args.document.now.cells fits) at c.in-Some.ensures) few)
+    ∙ ap (λ q. parts_of c.in-Some.cells q (ids_of form.entries)) p.1
+    ∙ from_ids form _ p.0 (rw (to_z-of_z w64 c.args.document.now.cells fits) at c.in-Some.ensures) few)
 
 pub returns-in-Err-directory_from : goal.returns-in-Err-directory_from
 returns-in-Err-directory_from c =
@@ -40,5 +38,5 @@ returns-in-Err-directory_from c =
     let few : length (seen_entries c.args.document.now.entries.items) ≤ 10000 = omega (arith, length-map c.args.document.now.entries.items seen_entry, c.args.document.now.entries.ok.0) in
     let p = password_true _ _ _ c.in-Ok.ensures in
     let whole = ap (λ es. parts_of c.in-Some.cells form.password (ids_of (seen_entries es))) c.deref.ensures.value
-      ∙ from_ids form _ p.0 (rw (to_z-of_z w64 c.args.document.now.cells fits) at c.in-Some.ensures) few in
+    ∙ from_ids form _ p.0 (rw (to_z-of_z w64 c.args.document.now.cells fits) at c.in-Some.ensures) few in
     ⊎_elim inl (λ e. inr (e ∙ whole)) (refused_ids c.in-Some.cells form.password c.in-Err-directory_from.fault (ids_of (seen_entries c.deref.result.now)) c.in-Err-directory_from.ensures)

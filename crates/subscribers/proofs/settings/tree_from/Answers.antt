@@ -1,4 +1,4 @@
-use Rattle.std.proofs.Common.{refl, inr, true, false}
+use Rattle.std.proofs.Common.{refl, inr}
 use Rattle.std.proofs.lemmas.Bool.{false≢true}
 use Rattle.subscribers.proofs.Answered.{read_tree, no_tree}
 use Rattle.subscribers.proofs.settings.tree_from.Goals as goal

@@ -1,4 +1,4 @@
-use Rattle.std.proofs.Common.{◌≡◌, ap, ◌∙◌}
+use Rattle.std.proofs.Common.{ap, ◌∙◌}
 use Rattle.std.specs.FinMap.{insert, from_entries}
 use Rattle.subscribers.proofs.Directories.{inserted, seen}
 use Rattle.subscribers.proofs.directory.Directory.insert.Goals as goal
