@@ -4,7 +4,7 @@ ghost use Rattle.std.specs.Prelude.{◌≡◌, ◌≤◌, length};
 ghost use Rattle.std.specs.List.{list_all};
 ghost use Rattle.subscribers.specs.Entries.{is_between, is_id, capcode_of, function_of, subscriber_of, ids_of};
 ghost use Rattle.subscribers.specs.Seen.{seen_entry, seen_entries};
-ghost use Rattle.subscribers.specs.Settings.{IsOrMemory};
+ghost use Rattle.subscribers.specs.Settings.{most_entries, IsOrMemory};
 
 use crate::directory::Directory;
 use crate::document::Entry;
@@ -74,7 +74,7 @@ fn subscriber_from(number: u32, twice: bool, entry: &Entry<'_>) -> Result<Subscr
 
 /// The map of the entries' ids, or the fault of the first faulty entry.
 pub fn directory_from(alloc: Global, entries: &[Entry<'_>]) -> Result<Directory, SettingsFault>
-    requires { length entries.now ≤ 10000 }
+    requires { length entries.now ≤ most_entries }
     ensures { IsOrMemory result (ids_of (seen_entries entries.now)) }
 {
     let mut directory = Directory::new(alloc);

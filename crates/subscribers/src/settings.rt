@@ -3,7 +3,7 @@
 ghost use Rattle.std.specs.Prelude.{◌≡◌, ◌≤◌, ◌⊎◌, Some, None, Ok, Err, IfOk, IfErr, option_map, if◌then◌else◌};
 ghost use Rattle.toml.specs.View.{table_view};
 ghost use Rattle.subscribers.specs.Seen.{seen_document};
-ghost use Rattle.subscribers.specs.Settings.{is_password, is_password_or_none, cells_of, settings_of_form, settings_of_tree, tree_of, settings_of, IsOrMemory};
+ghost use Rattle.subscribers.specs.Settings.{most_cells, is_password, is_password_or_none, cells_of, settings_of_form, settings_of_tree, tree_of, settings_of, IsOrMemory};
 ghost use Rattle.std.specs.List.{list_all};
 ghost use Rattle.subscribers.specs.Entries.{is_between};
 
@@ -70,7 +70,7 @@ impl Settings {
     pub fn cells(&self) -> u32
         ensures value { result ≡ self.now.cells }
         ensures some { 1 ≤ result }
-        ensures most { result ≤ 65536 }
+        ensures most { result ≤ most_cells }
     {
         self.cells
     }

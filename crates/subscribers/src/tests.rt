@@ -65,40 +65,43 @@ fn filled(alloc: Global, line: &str, size: usize) -> Result<Vec<u8>, AllocError>
     Ok(file)
 }
 
+/// Documents of another form.
+const OF_ANOTHER_FORM: [&str; 30] = [
+    "",
+    "password = \"abcdef\"",
+    "cells = \"64\"",
+    "cells = 64.0",
+    "cells = true",
+    "cells = [64]",
+    "cells = 1979-05-27",
+    "cells.x = 64",
+    "cells = 64\nextra = 1",
+    "cells = 64\nversion = 1",
+    "cells = 64\npassword = 123456",
+    "cells = 64\npassword = [\"abcdef\"]",
+    "cells = 64\nsubscriber = 5",
+    "cells = 64\nsubscriber = [5]",
+    "cells = 64\nsubscriber = [[]]",
+    "cells = 64\nsubscriber = [{}]",
+    "cells = 64\n[subscriber]\nid = \"1\"\ncapcode = 8\nclass = \"alpha\"",
+    "cells = 64\nsubscriber.id = \"1\"",
+    "cells = 64\nsubscriber = [{id = 1, capcode = 8, class = \"alpha\"}]",
+    "cells = 64\nsubscriber = [{id = \"1\", capcode = \"8\", class = \"alpha\"}]",
+    "cells = 64\nsubscriber = [{id = \"1\", capcode = 8.0, class = \"alpha\"}]",
+    "cells = 64\nsubscriber = [{id = \"1\", capcode = 07:32:00, class = \"alpha\"}]",
+    "cells = 64\nsubscriber = [{id = \"1\", capcode = 8, class = 3}]",
+    "cells = 64\nsubscriber = [{id = \"1\", capcode = 8, class.x = \"alpha\"}]",
+    "cells = 64\nsubscriber = [{capcode = 8, class = \"alpha\"}]",
+    "cells = 64\nsubscriber = [{id = \"1\", class = \"alpha\"}]",
+    "cells = 64\nsubscriber = [{id = \"1\", capcode = 8}]",
+    "cells = 64\nsubscriber = [{id = \"1\", capcode = 8, class = \"alpha\", name = \"x\"}]",
+    "cells = 64\nsubscriber = [{id = \"x\", capcode = 8, class = \"alpha\"}, 5]",
+    "cells = 0\npassword = \"ab\"\nextra = 1",
+];
+
 #[test]
 fn documents_are_refused_by_their_form(rt: HostRuntime) {
-    for file in [
-        "",
-        "password = \"abcdef\"",
-        "cells = \"64\"",
-        "cells = 64.0",
-        "cells = true",
-        "cells = [64]",
-        "cells = 1979-05-27",
-        "cells.x = 64",
-        "cells = 64\nextra = 1",
-        "cells = 64\nversion = 1",
-        "cells = 64\npassword = 123456",
-        "cells = 64\npassword = [\"abcdef\"]",
-        "cells = 64\nsubscriber = 5",
-        "cells = 64\nsubscriber = [5]",
-        "cells = 64\nsubscriber = [[]]",
-        "cells = 64\nsubscriber = [{}]",
-        "cells = 64\n[subscriber]\nid = \"1\"\ncapcode = 8\nclass = \"alpha\"",
-        "cells = 64\nsubscriber.id = \"1\"",
-        "cells = 64\nsubscriber = [{id = 1, capcode = 8, class = \"alpha\"}]",
-        "cells = 64\nsubscriber = [{id = \"1\", capcode = \"8\", class = \"alpha\"}]",
-        "cells = 64\nsubscriber = [{id = \"1\", capcode = 8.0, class = \"alpha\"}]",
-        "cells = 64\nsubscriber = [{id = \"1\", capcode = 07:32:00, class = \"alpha\"}]",
-        "cells = 64\nsubscriber = [{id = \"1\", capcode = 8, class = 3}]",
-        "cells = 64\nsubscriber = [{id = \"1\", capcode = 8, class.x = \"alpha\"}]",
-        "cells = 64\nsubscriber = [{capcode = 8, class = \"alpha\"}]",
-        "cells = 64\nsubscriber = [{id = \"1\", class = \"alpha\"}]",
-        "cells = 64\nsubscriber = [{id = \"1\", capcode = 8}]",
-        "cells = 64\nsubscriber = [{id = \"1\", capcode = 8, class = \"alpha\", name = \"x\"}]",
-        "cells = 64\nsubscriber = [{id = \"x\", capcode = 8, class = \"alpha\"}, 5]",
-        "cells = 0\npassword = \"ab\"\nextra = 1",
-    ] {
+    for file in OF_ANOTHER_FORM {
         assert_eq!(rt;
             fault(rt.alloc(), file.as_bytes()),
             Some(SettingsFault::Form),
@@ -121,130 +124,139 @@ fn texts_that_are_no_documents_are_refused(rt: HostRuntime) {
     }
 }
 
+/// Documents of the right form, with passwords and numbers of cells.
+const RANGES: [(&str, Option<SettingsFault>); 16] = [
+    (
+        "cells = 64\npassword = \"ab\"",
+        Some(SettingsFault::Password),
+    ),
+    (
+        "cells = 64\npassword = \"abcde\"",
+        Some(SettingsFault::Password),
+    ),
+    (
+        "cells = 64\npassword = \"abcdefg\"",
+        Some(SettingsFault::Password),
+    ),
+    (
+        "cells = 64\npassword = \"abc ef\"",
+        Some(SettingsFault::Password),
+    ),
+    (
+        "cells = 64\npassword = \"abcde\\u007F\"",
+        Some(SettingsFault::Password),
+    ),
+    (
+        "cells = 64\npassword = \"abcd\\u00E9\"",
+        Some(SettingsFault::Password),
+    ),
+    ("cells = 64\npassword = \"!~!~!~\"", None),
+    (
+        "cells = 0\npassword = \"ab\"",
+        Some(SettingsFault::Password),
+    ),
+    ("cells = 0", Some(SettingsFault::Cells)),
+    ("cells = -1", Some(SettingsFault::Cells)),
+    ("cells = 65537", Some(SettingsFault::Cells)),
+    ("cells = 4294967297", Some(SettingsFault::Cells)),
+    (
+        "cells = 0\nsubscriber = [{id = \"\", capcode = 8, class = \"alpha\"}]",
+        Some(SettingsFault::Cells),
+    ),
+    ("cells = 1", None),
+    ("cells = 65536", None),
+    ("\"cells\" = 0x40\nsubscriber = []", None),
+];
+
 #[test]
 fn passwords_and_cells_have_their_ranges(rt: HostRuntime) {
-    for (file, wanted) in [
-        (
-            "cells = 64\npassword = \"ab\"",
-            Some(SettingsFault::Password),
-        ),
-        (
-            "cells = 64\npassword = \"abcde\"",
-            Some(SettingsFault::Password),
-        ),
-        (
-            "cells = 64\npassword = \"abcdefg\"",
-            Some(SettingsFault::Password),
-        ),
-        (
-            "cells = 64\npassword = \"abc ef\"",
-            Some(SettingsFault::Password),
-        ),
-        (
-            "cells = 64\npassword = \"abcde\\u007F\"",
-            Some(SettingsFault::Password),
-        ),
-        (
-            "cells = 64\npassword = \"abcd\\u00E9\"",
-            Some(SettingsFault::Password),
-        ),
-        ("cells = 64\npassword = \"!~!~!~\"", None),
-        (
-            "cells = 0\npassword = \"ab\"",
-            Some(SettingsFault::Password),
-        ),
-        ("cells = 0", Some(SettingsFault::Cells)),
-        ("cells = -1", Some(SettingsFault::Cells)),
-        ("cells = 65537", Some(SettingsFault::Cells)),
-        ("cells = 4294967297", Some(SettingsFault::Cells)),
-        (
-            "cells = 0\nsubscriber = [{id = \"\", capcode = 8, class = \"alpha\"}]",
-            Some(SettingsFault::Cells),
-        ),
-        ("cells = 1", None),
-        ("cells = 65536", None),
-        ("\"cells\" = 0x40\nsubscriber = []", None),
-    ] {
+    for (file, wanted) in RANGES {
         assert_eq!(rt; fault(rt.alloc(), file.as_bytes()), wanted, "{file}");
     }
 }
 
+/// Entries.
+const ENTRIES: [(&str, Option<SettingsFault>); 13] = [
+    (
+        "{id = \"12a\", capcode = 8, class = \"alpha\"}",
+        Some(SettingsFault::Id(1)),
+    ),
+    (
+        "{id = \"\", capcode = 8, class = \"alpha\"}",
+        Some(SettingsFault::Id(1)),
+    ),
+    (
+        "{id = \"12345678901\", capcode = 8, class = \"alpha\"}",
+        Some(SettingsFault::Id(1)),
+    ),
+    (
+        "{id = \"1234567890\", capcode = 8, class = \"alpha\"}",
+        None,
+    ),
+    ("{id = \"1\", capcode = 8, class = \"alpha\"}", None),
+    (
+        "{id = \"1\", capcode = 8, class = \"alpha\"}, {id = \"1\", capcode = 8, class = \"tone1\"}",
+        Some(SettingsFault::IdTwice(2)),
+    ),
+    (
+        "{id = \"1\", capcode = 8, class = \"alpha\"}, {id = \"01\", capcode = 8, class = \"alpha\"}",
+        None,
+    ),
+    (
+        "{id = \"1\", capcode = 8, class = \"alpha\"}, {id = \"1\", capcode = -1, class = \"beta\"}",
+        Some(SettingsFault::IdTwice(2)),
+    ),
+    (
+        "{id = \"1\", capcode = 8, class = \"beta\"}",
+        Some(SettingsFault::Class(1)),
+    ),
+    (
+        "{id = \"1\", capcode = 8, class = \"Alpha\"}",
+        Some(SettingsFault::Class(1)),
+    ),
+    (
+        "{id = \"1\", capcode = -1, class = \"beta\"}",
+        Some(SettingsFault::Capcode(1)),
+    ),
+    (
+        "{id = \"1\", capcode = 8, class = \"beta\"}, {id = \"12a\", capcode = 8, class = \"alpha\"}",
+        Some(SettingsFault::Class(1)),
+    ),
+    (
+        "{id = \"1\", capcode = 8, class = \"alpha\"}, {id = \"x\", capcode = -1, class = \"alpha\"}",
+        Some(SettingsFault::Id(2)),
+    ),
+];
+
 #[test]
 fn the_first_faulty_entry_is_named(rt: HostRuntime) -> Result<(), Fail> {
-    for (entries, wanted) in [
-        (
-            "{id = \"12a\", capcode = 8, class = \"alpha\"}",
-            Some(SettingsFault::Id(1)),
-        ),
-        (
-            "{id = \"\", capcode = 8, class = \"alpha\"}",
-            Some(SettingsFault::Id(1)),
-        ),
-        (
-            "{id = \"12345678901\", capcode = 8, class = \"alpha\"}",
-            Some(SettingsFault::Id(1)),
-        ),
-        (
-            "{id = \"1234567890\", capcode = 8, class = \"alpha\"}",
-            None,
-        ),
-        ("{id = \"1\", capcode = 8, class = \"alpha\"}", None),
-        (
-            "{id = \"1\", capcode = 8, class = \"alpha\"}, {id = \"1\", capcode = 8, class = \"tone1\"}",
-            Some(SettingsFault::IdTwice(2)),
-        ),
-        (
-            "{id = \"1\", capcode = 8, class = \"alpha\"}, {id = \"01\", capcode = 8, class = \"alpha\"}",
-            None,
-        ),
-        (
-            "{id = \"1\", capcode = 8, class = \"alpha\"}, {id = \"1\", capcode = -1, class = \"beta\"}",
-            Some(SettingsFault::IdTwice(2)),
-        ),
-        (
-            "{id = \"1\", capcode = 8, class = \"beta\"}",
-            Some(SettingsFault::Class(1)),
-        ),
-        (
-            "{id = \"1\", capcode = 8, class = \"Alpha\"}",
-            Some(SettingsFault::Class(1)),
-        ),
-        (
-            "{id = \"1\", capcode = -1, class = \"beta\"}",
-            Some(SettingsFault::Capcode(1)),
-        ),
-        (
-            "{id = \"1\", capcode = 8, class = \"beta\"}, {id = \"12a\", capcode = 8, class = \"alpha\"}",
-            Some(SettingsFault::Class(1)),
-        ),
-        (
-            "{id = \"1\", capcode = 8, class = \"alpha\"}, {id = \"x\", capcode = -1, class = \"alpha\"}",
-            Some(SettingsFault::Id(2)),
-        ),
-    ] {
+    for (entries, wanted) in ENTRIES {
         let file = format!(in rt.alloc(); "cells = 64\nsubscriber = [{entries}]")?;
         assert_eq!(rt; fault(rt.alloc(), file.as_bytes()), wanted, "{entries}");
     }
     Ok(())
 }
 
+/// Capcodes of one entry.
+const CAPCODES: [(i64, Option<SettingsFault>); 13] = [
+    (0, None),
+    (2_007_663, None),
+    (2_007_664, Some(SettingsFault::Capcode(1))),
+    (2_007_671, Some(SettingsFault::Capcode(1))),
+    (2_007_672, None),
+    (2_045_055, None),
+    (2_045_056, Some(SettingsFault::Capcode(1))),
+    (2_045_063, Some(SettingsFault::Capcode(1))),
+    (2_045_064, None),
+    (2_097_151, None),
+    (2_097_152, Some(SettingsFault::Capcode(1))),
+    (4_294_967_304, Some(SettingsFault::Capcode(1))),
+    (-1, Some(SettingsFault::Capcode(1))),
+];
+
 #[test]
 fn capcodes_beside_the_reserved_ones_are_taken(rt: HostRuntime) -> Result<(), Fail> {
-    for (capcode, wanted) in [
-        (0i64, None),
-        (2_007_663, None),
-        (2_007_664, Some(SettingsFault::Capcode(1))),
-        (2_007_671, Some(SettingsFault::Capcode(1))),
-        (2_007_672, None),
-        (2_045_055, None),
-        (2_045_056, Some(SettingsFault::Capcode(1))),
-        (2_045_063, Some(SettingsFault::Capcode(1))),
-        (2_045_064, None),
-        (2_097_151, None),
-        (2_097_152, Some(SettingsFault::Capcode(1))),
-        (4_294_967_304, Some(SettingsFault::Capcode(1))),
-        (-1, Some(SettingsFault::Capcode(1))),
-    ] {
+    for (capcode, wanted) in CAPCODES {
         let file = format!(in rt.alloc();
             "cells = 1\nsubscriber = [{{id = \"1\", capcode = {capcode}, class = \"alpha\"}}]"
         )?;
@@ -281,6 +293,16 @@ fn the_number_of_bytes_is_bounded(rt: HostRuntime) -> Result<(), Fail> {
     Ok(())
 }
 
+/// The subscribers of `SIX`.
+const FOUND: [(&str, u32, Function); 6] = [
+    ("5551234", 8, Function::Alpha),
+    ("5550002", 9, Function::Numeric),
+    ("15", 15, Function::Tone1),
+    ("8", 8, Function::Tone1),
+    ("16", 16, Function::Tone1),
+    ("7", 15, Function::Alpha),
+];
+
 #[test]
 fn ids_are_found(rt: HostRuntime) -> Result<(), Fail> {
     let settings = match Settings::read(rt.alloc(), SIX.as_bytes()) {
@@ -289,14 +311,7 @@ fn ids_are_found(rt: HostRuntime) -> Result<(), Fail> {
     };
     assert_eq!(rt; settings.cells(), 64);
     assert!(rt; settings.password().is_none());
-    for (id, capcode, function) in [
-        ("5551234", 8u32, Function::Alpha),
-        ("5550002", 9, Function::Numeric),
-        ("15", 15, Function::Tone1),
-        ("8", 8, Function::Tone1),
-        ("16", 16, Function::Tone1),
-        ("7", 15, Function::Alpha),
-    ] {
+    for (id, capcode, function) in FOUND {
         let found = settings
             .find(id.as_bytes())
             .map(|s| (s.capcode.number(), s.function));
