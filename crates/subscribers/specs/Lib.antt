@@ -1,0 +1,5 @@
+pub mod Form
+pub mod Seen
+pub mod Parts
+pub mod Entries
+pub mod Settings
