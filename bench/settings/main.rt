@@ -1,0 +1,42 @@
+//! Times the reading of settings files of 10 to 10,000 subscribers, and 1,000 look-ups of one id.
+#![tactic(auto)]
+
+use std::alloc::{AllocError, Global};
+use std::time::Instant;
+use subscribers::Settings;
+
+/// A settings file of so many subscribers, with the ids from 0 on.
+fn numbered(alloc: Global, count: u32) -> Result<String, AllocError> {
+    let mut file = format!(in alloc; "cells = 64\n")?;
+    for id in 0..count {
+        let entry = format!(in alloc; "\n[[subscriber]]\nid = \"{id}\"\ncapcode = {id}\nclass = \"alpha\"\n")?;
+        file.push_str(entry.as_str())?;
+    }
+    Ok(file)
+}
+
+fn main(rt: HostRuntime) -> anyhow::Result<()> {
+    for count in [10u32, 100, 1_000, 10_000] {
+        let file = numbered(rt.alloc(), count)?;
+        for _ in 0..5u8 {
+            let start = Instant::now(&rt)?;
+            let settings = Settings::read(rt.alloc(), file.as_bytes());
+            let took = start.elapsed(&rt)?;
+            match settings {
+                Ok(settings) => {
+                    let start = Instant::now(&rt)?;
+                    let mut found = 0u32;
+                    for _ in 0..1_000u32 {
+                        if settings.find(b"7").is_some() && found < 1_000 {
+                            found += 1;
+                        }
+                    }
+                    let looked = start.elapsed(&rt)?;
+                    println!(rt; "{} entries, {} bytes: read {} us; {} finds {} us", count, file.len(), took.as_micros(), found, looked.as_micros())?;
+                }
+                Err(_) => println!(rt; "refused")?,
+            }
+        }
+    }
+    Ok(())
+}
