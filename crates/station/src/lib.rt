@@ -11,6 +11,7 @@
 //! - `input`: reading the front of the input.
 //! - `blocks`: the one block that `one` reads.
 //! - `texts`: the text of a content.
+//! - `laws`: an input is at most one block, and a content has at most one text.
 //! - `slots`: the words in the slots of one page's transmission.
 //! - `sending`: writing them, a batch at a time.
 #![tactic(auto)]
@@ -18,6 +19,7 @@
 mod blocks;
 mod commands;
 mod input;
+pub mod laws;
 pub mod one_page;
 mod sending;
 mod slots;
