@@ -9,7 +9,6 @@ work=$(mktemp -d)
 trap 'rm -rf "$work"' EXIT
 
 mkdir -p "$work/crates/measure/src"
-cp "$here/main.rt" "$work/crates/measure/src/main.rt"
 for name in bits bch31 codeword subscribers; do
     mkdir "$work/crates/$name"
     cp -r "$crates/$name/src" "$crates/$name/specs" "$crates/$name/proofs" "$work/crates/$name/"
@@ -21,5 +20,49 @@ codeword: bch31
 subscribers: codeword bch31 bits toml
 measure: subscribers codeword bch31 bits toml anyhow
 TEXT
+cat >"$work/crates/measure/src/main.rt" <<'RT'
+//! Times the reading of settings files of 10 to 10,000 subscribers, and 1,000 look-ups of one id.
+#![tactic(auto)]
+
+use std::alloc::{AllocError, Global};
+use std::time::Instant;
+use subscribers::Settings;
+
+/// A settings file of so many subscribers, with the ids from 0 on.
+fn numbered(alloc: Global, count: u32) -> Result<String, AllocError> {
+    let mut file = format!(in alloc; "cells = 64\n")?;
+    for id in 0..count {
+        let entry = format!(in alloc; "\n[[subscriber]]\nid = \"{id}\"\ncapcode = {id}\nclass = \"alpha\"\n")?;
+        file.push_str(entry.as_str())?;
+    }
+    Ok(file)
+}
+
+fn main(rt: HostRuntime) -> anyhow::Result<()> {
+    for count in [10u32, 100, 1_000, 10_000] {
+        let file = numbered(rt.alloc(), count)?;
+        for _ in 0..5u8 {
+            let start = Instant::now(&rt)?;
+            let settings = Settings::read(rt.alloc(), file.as_bytes());
+            let took = start.elapsed(&rt)?;
+            match settings {
+                Ok(settings) => {
+                    let start = Instant::now(&rt)?;
+                    let mut found = 0u32;
+                    for _ in 0..1_000u32 {
+                        if settings.find(b"7").is_some() && found < 1_000 {
+                            found += 1;
+                        }
+                    }
+                    let looked = start.elapsed(&rt)?;
+                    println!(rt; "{} entries, {} bytes: read {} us; {} finds {} us", count, file.len(), took.as_micros(), found, looked.as_micros())?;
+                }
+                Err(_) => println!(rt; "refused")?,
+            }
+        }
+    }
+    Ok(())
+}
+RT
 cd "$work/crates/measure"
 rt run 2>"$work/log" || { cat "$work/log" >&2; exit 1; }
