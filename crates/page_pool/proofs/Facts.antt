@@ -1,0 +1,83 @@
+-- What holds of every region.
+use Rattle.std.proofs.Common.{◌≡◌, ◌≢◌, ℕ, zero, suc, ◌+◌, ◌-◌, ◌*◌, ◌<◌, ◌≤◌, Bool, true, false, cond, ◌==◌, ◌⊎◌, inl, inr, List, [], ◌∷◌, ◌++◌, map, length, reverse, get_or, refl, sym, ◌∙◌, ap, subst, arith, eq-eqb}
+use Rattle.std.proofs.lemmas.Bool.Decides.{leb_tells}
+use Rattle.std.proofs.lemmas.List.{get_or-set_same, get_or-set_other, length-set}
+use Rattle.std.specs.List.{flat_map}
+use Rattle.std.specs.Prelude.{slice_set}
+use Rattle.page_text.specs.Page.{Page}
+use Rattle.page_pool.specs.Cells.{cells_for}
+use Rattle.page_pool.specs.Chain.{first_or, Chain, walk, times, step}
+use Rattle.page_pool.specs.Pool.{Live}
+use Rattle.page_pool.specs.Layout.{capcode_in, function_in, NONE, head, before_of, after_of, link_of, places, text, page_at, entry, used, IsRegion}
+use Rattle.page_pool.specs.declared.heads.Head.{Head}
+use Rattle.page_pool.specs.declared.heads.Ends.{Ends}
+use Rattle.page_pool.proofs.Chains.{times-append, times-part, times-firsts, walk_is, walk_same, walk_more}
+use Rattle.page_pool.proofs.Writes.{Fixed, fixed}
+use Rattle.page_pool.proofs.Texts.{cells_for-suc}
+
+pub link-same : (links : List ℕ) (c v : ℕ) → c < length links → link_of (slice_set links c v) c ≡ v
+link-same links c v l = get_or-set_same links c v 0 l
+
+pub link-other : (links : List ℕ) (c v x : ℕ) → x ≢ c → link_of (slice_set links c v) x ≡ link_of links x
+link-other links c v x ne = get_or-set_other links c x v 0 ne
+
+-- the first of a page's cells is that of its head
+pub own : (links : List ℕ) (hs : List Head) (c : ℕ) → (r : List ℕ) × (places links hs c ≡ c ∷ r)
+own links hs c = let e = cells_for-suc (head hs c).length in (walk (link_of links) e.0 (link_of links c), ap (λ n. walk (link_of links) n c) e.1)
+
+abbrev page_of : List ℕ → List ℕ → Fixed → Page
+page_of bytes cells f = record { capcode = capcode_in f.address; function = function_in f.address; text = text bytes cells f.length }
+
+pub page-same : (bytes bytes' links links' : List ℕ) (hs hs' : List Head) (c : ℕ) → fixed (head hs' c) ≡ fixed (head hs c)
+    → places links' hs' c ≡ places links hs c → text bytes' (places links hs c) (head hs c).length ≡ text bytes (places links hs c) (head hs c).length
+    → page_at bytes' links' hs' c ≡ page_at bytes links hs c
+page-same bytes bytes' links links' hs hs' c e p t =
+    let a : page_at bytes' links' hs' c ≡ page_of bytes' (places links hs c) (fixed (head hs' c)) = ap (λ l. page_of bytes' l (fixed (head hs' c))) p in
+    let b : page_of bytes' (places links hs c) (fixed (head hs' c)) ≡ page_of bytes' (places links hs c) (fixed (head hs c)) = ap (page_of bytes' (places links hs c)) e in
+    let d : page_of bytes' (places links hs c) (fixed (head hs c)) ≡ page_at bytes links hs c = ap (λ (l : List ℕ). let q : Page = record { capcode = capcode_in (head hs c).address; function = function_in (head hs c).address; text = l } in q) t in
+    a ∙ b ∙ d
+
+pub entry-same : (bytes bytes' links links' : List ℕ) (hs hs' : List Head) (c : ℕ) → page_at bytes' links' hs' c ≡ page_at bytes links hs c
+    → places links' hs' c ≡ places links hs c → entry bytes' links' hs' c ≡ entry bytes links hs c
+entry-same bytes bytes' links links' hs hs' c e p =
+    let a : entry bytes' links' hs' c ≡ record { ticket = c; page = page_at bytes links hs c; places = places links' hs' c } = ap (λ (q : Page). let v : Live = record { ticket = c; page = q; places = places links' hs' c } in v) e in
+    a ∙ ap (λ (l : List ℕ). let v : Live = record { ticket = c; page = page_at bytes links hs c; places = l } in v) p
+
+-- a page's cells, where none of them got another link
+pub places-same : (links links' : List ℕ) (hs hs' : List Head) (c : ℕ) → fixed (head hs' c) ≡ fixed (head hs c)
+    → ((x : ℕ) → 0 < times x (places links hs c) → link_of links' x ≡ link_of links x) → places links' hs' c ≡ places links hs c
+places-same links links' hs hs' c e h =
+    let a : places links' hs' c ≡ walk (link_of links') (cells_for (head hs c).length) c = ap (λ (f : Fixed). walk (link_of links') (cells_for f.length) c) e in
+    a ∙ walk_same (link_of links) (link_of links') (cells_for (head hs c).length) c h
+
+module _ (bytes links : List ℕ) (hs : List Head) (free spare first last count : ℕ) (frames : List Ends) (r : IsRegion bytes links hs free spare first last count frames) where
+  pub below : (x : ℕ) → 0 < times x (used links hs r.order ++ r.unused) → x < length hs
+  below x k = elim (leb_tells (length hs) x) [ inl h ↦ absurd (let z = r.within x h.1 in omega (arith, z, k)) | inr h ↦ h.1 ]
+
+  pub one : (x : ℕ) → times x (used links hs r.order) + times x r.unused ≤ 1
+  one x = let a = times-append x (used links hs r.order) r.unused in
+    elim (leb_tells (length hs) x) [ inl h ↦ let z = r.within x h.1 in omega (arith, z, a) | inr h ↦ let z = r.once x h.1 in omega (arith, z, a) ]
+
+  pub below_used : (x : ℕ) → 0 < times x (used links hs r.order) → x < length hs
+  below_used x k = below x (omega (arith, times-append x (used links hs r.order) r.unused, k))
+
+  pub below_unused : (x : ℕ) → 0 < times x r.unused → x < length hs
+  below_unused x k = below x (omega (arith, times-append x (used links hs r.order) r.unused, k))
+
+  pub firsts : (x : ℕ) → times x r.order ≤ times x (used links hs r.order)
+  firsts x = times-firsts (places links hs) x r.order (own links hs)
+
+  pub below_order : (x : ℕ) → 0 < times x r.order → x < length hs
+  below_order x k = below_used x (omega (arith, firsts x, k))
+
+  pub one_order : (x : ℕ) → times x r.order ≤ 1
+  one_order x = omega (arith, firsts x, one x)
+
+  pub part : (x c : ℕ) → 0 < times c r.order → times x (places links hs c) ≤ times x (used links hs r.order)
+  part x c k = times-part (places links hs) x c r.order k
+
+  pub none_order : times NONE r.order ≡ 0
+  none_order = elim (leb_tells 1 (times NONE r.order)) [ inl h ↦ absurd (let z = below_order NONE (omega (arith, h.1)) in omega (arith, z, r.most)) | inr h ↦ omega (arith, h.1) ]
+
+  pub order_is : walk (after_of hs) count first ≡ r.order
+  order_is = ap (λ n. walk (after_of hs) n first) r.count_is ∙ ap (λ c. walk (after_of hs) (length r.order) c) r.first_is ∙ walk_is (after_of hs) r.order NONE r.onward
