@@ -56,7 +56,7 @@ module _ (bytes links : List ℕ) (hs : List Head) (free spare first last count 
 
   pub one : (x : ℕ) → times x (used links hs r.order) + times x r.unused ≤ 1
   one x = let a = times-append x (used links hs r.order) r.unused in
-    elim (leb_tells (length hs) x) [ inl h ↦ let z = r.within x h.1 in omega (arith, z, a) | inr h ↦ let z = r.once x h.1 in omega (arith, z, a) ]
+      elim (leb_tells (length hs) x) [ inl h ↦ let z = r.within x h.1 in omega (arith, z, a) | inr h ↦ let z = r.once x h.1 in omega (arith, z, a) ]
 
   pub below_used : (x : ℕ) → 0 < times x (used links hs r.order) → x < length hs
   below_used x k = below x (omega (arith, times-append x (used links hs r.order) r.unused, k))

@@ -25,7 +25,7 @@ pub times-range : (x a n : ℕ) → a ≤ x → x < a + n → times x (range_wit
 times-range x a zero l h = absurd (omega (arith, l, h))
 times-range x a (suc n) l h =
     elim (eqb_tells x a) [
-      inl e ↦ let r = times-low x (a + 1) n (omega (arith, e.1)) in ap (λ b. cond b 1 0 + times x (range_with_len (a + 1) n)) e.0 ∙ omega (arith, r)
+      | inl e ↦ let r = times-low x (a + 1) n (omega (arith, e.1)) in ap (λ b. cond b 1 0 + times x (range_with_len (a + 1) n)) e.0 ∙ omega (arith, r)
       | inr e ↦ let r = times-range x (a + 1) n (omega (arith, e.1, l)) (omega (arith, h)) in ap (λ b. cond b 1 0 + times x (range_with_len (a + 1) n)) e.0 ∙ omega (arith, r)
     ]
 
@@ -52,26 +52,26 @@ pub empty : (bytes links : List ℕ) (hs : List Head) (h : Head) (n : ℕ) → 0
     → ((k : ℕ) → k + 1 < length links → link_of links k ≡ k + 1) → ((k : ℕ) → k + 1 ≡ length links → link_of links k ≡ NONE)
     → IsRegion bytes links hs 0 n NONE NONE 0 (replicate 8 (record { first = NONE; last = NONE }))
 empty bytes links hs h n some most is dead size links_size bytes_size next last = record {
-    order = [];
-    unused = range_with_len 0 n;
-    onward = tt;
-    backward = tt;
-    first_is = refl;
-    last_is = refl;
-    count_is = refl;
-    frames_are = let e : Ends = record { first = NONE; last = NONE } in length-replicate 8 e;
-    peers = λ f l. let e : Ends = record { first = NONE; last = NONE } in let is : ends (replicate 8 e) f ≡ e = ends-replicate 8 e f l in record { onward = tt; backward = tt; first_is = ap (λ z. z.first) is; last_is = ap (λ z. z.last) is };
-    free_chain = chain_range (link_of links) 0 n NONE (λ k l z. next k (omega (arith, z, links_size))) (λ k z l. last k (omega (arith, z, links_size)));
-    free_is = first_range n NONE some;
-    spare_is = sym (length-range_with_len 0 n);
-    chains = λ c k. absurd (omega (arith, k));
-    once = λ c l. times-range c 0 n (omega arith) (omega (arith, l, size));
-    within = λ c l. times-beyond c 0 n (omega (arith, l, size));
-    total = length-range_with_len 0 n ∙ sym size;
-    live = λ c l. ap (λ z. is_some (head z c).address) is ∙ ap (λ (z : Head). is_some z.address) (head-replicate n h c (omega (arith, l, size))) ∙ dead;
-    fits = λ c k. absurd (omega (arith, k));
-    links_cells = links_size ∙ sym size;
-    bytes_cells = omega (arith, bytes_size, size);
-    some = omega (arith, some, size);
-    most = omega (arith, most, size);
-  }
+  order = [];
+  unused = range_with_len 0 n;
+  onward = tt;
+  backward = tt;
+  first_is = refl;
+  last_is = refl;
+  count_is = refl;
+  frames_are = let e : Ends = record { first = NONE; last = NONE } in length-replicate 8 e;
+  peers = λ f l. let e : Ends = record { first = NONE; last = NONE } in let is : ends (replicate 8 e) f ≡ e = ends-replicate 8 e f l in record { onward = tt; backward = tt; first_is = ap (λ z. z.first) is; last_is = ap (λ z. z.last) is };
+  free_chain = chain_range (link_of links) 0 n NONE (λ k l z. next k (omega (arith, z, links_size))) (λ k z l. last k (omega (arith, z, links_size)));
+  free_is = first_range n NONE some;
+  spare_is = sym (length-range_with_len 0 n);
+  chains = λ c k. absurd (omega (arith, k));
+  once = λ c l. times-range c 0 n (omega arith) (omega (arith, l, size));
+  within = λ c l. times-beyond c 0 n (omega (arith, l, size));
+  total = length-range_with_len 0 n ∙ sym size;
+  live = λ c l. ap (λ z. is_some (head z c).address) is ∙ ap (λ (z : Head). is_some z.address) (head-replicate n h c (omega (arith, l, size))) ∙ dead;
+  fits = λ c k. absurd (omega (arith, k));
+  links_cells = links_size ∙ sym size;
+  bytes_cells = omega (arith, bytes_size, size);
+  some = omega (arith, some, size);
+  most = omega (arith, most, size);
+}

@@ -11,20 +11,20 @@ use Rattle.page_pool.proofs.Chains.{times-append, times-self, times-one, times-r
 module _ (n b n' b' : ℕ → ℕ) where
   pub stays : (xs : List ℕ) (first last : ℕ) → ((c : ℕ) → 0 < times c xs → n' c ≡ n c) → ((c : ℕ) → 0 < times c xs → b' c ≡ b c) → Linked n b xs first last → Linked n' b' xs first last
   stays xs first last sn sb l = record {
-      onward = chain_same n n' xs NONE sn l.onward;
-      backward = chain_same b b' (reverse xs) NONE (λ c k. sb c (omega (arith, times-reverse c xs, k))) l.backward;
-      first_is = l.first_is;
-      last_is = l.last_is;
-    }
+    onward = chain_same n n' xs NONE sn l.onward;
+    backward = chain_same b b' (reverse xs) NONE (λ c k. sb c (omega (arith, times-reverse c xs, k))) l.backward;
+    first_is = l.first_is;
+    last_is = l.last_is;
+  }
 
 -- the first of a chain once one cell has left it
 pub ends_without : (t : ℕ) (xs ys : List ℕ) (first next : ℕ) → first ≡ first_or (xs ++ t ∷ ys) NONE → next ≡ first_or ys NONE
     → ((c : ℕ) → 0 < times c xs → c ≢ t) → cond (first == t) next first ≡ first_or (xs ++ ys) NONE
 ends_without t [] ys first next e n ne = rw (eq-eqb first t e) n
 ends_without t (x ∷ xs) ys first next e n ne = elim (first == t) as (λ v. (first == t) ≡ v → cond v next first ≡ x) [
-    true ↦ λ q. absurd (ne x (times-self x xs) (sym e ∙ eqb-true first t q))
-    | false ↦ λ q. e
-  ] refl
+  | true ↦ λ q. absurd (ne x (times-self x xs) (sym e ∙ eqb-true first t q))
+  | false ↦ λ q. e
+] refl
 
 module _ (n b n' b' : ℕ → ℕ) (xs : List ℕ) (t : ℕ) (ys : List ℕ) (first last : ℕ) (l : Linked n b (xs ++ t ∷ ys) first last)
     (one : (c : ℕ) → times c (xs ++ t ∷ ys) ≤ 1) (none : times NONE (xs ++ t ∷ ys) ≡ 0) where
@@ -53,39 +53,39 @@ module _ (n b n' b' : ℕ → ℕ) (xs : List ℕ) (t : ℕ) (ys : List ℕ) (fi
       → ((c : ℕ) → 0 < times c (xs ++ ys) → c ≢ n t → b' c ≡ b c) → (0 < times (n t) (xs ++ ys) → b' (n t) ≡ b t)
       → Linked n' b' (xs ++ ys) (cond (first == t) (n t) first) (cond (last == t) (b t) last)
   leaves sn an sb ab = record {
-      onward = unlink n n' xs t ys NONE l.onward (λ c. omega (arith, count c, one c)) (omega (arith, count NONE, none))
+    onward = unlink n n' xs t ys NONE l.onward (λ c. omega (arith, count c, one c)) (omega (arith, count NONE, none))
         (λ c k ne. sn c k (λ e. ne (e ∙ before_is)))
         (λ k. subst (λ z. n' z ≡ n t) before_is (an (subst (λ z. 0 < times z (xs ++ ys)) (sym before_is) k)));
-      backward = subst (λ z. Chain b' z NONE) (sym (reverse-append xs ys))
+    backward = subst (λ z. Chain b' z NONE) (sym (reverse-append xs ys))
         (unlink b b' (reverse ys) t (reverse xs) NONE backward (λ c. omega (arith, count c, one c, other_way c)) (omega (arith, count NONE, none, other_way NONE))
-          (λ c k ne. sb c (omega (arith, k, other_way c)) (λ e. ne (e ∙ sym back_is)))
-          (λ k. subst (λ z. b' z ≡ b t) (sym back_is) (ab (subst (λ m. 0 < m) (other_way (n t)) (subst (λ z. 0 < times z (reverse ys ++ reverse xs)) back_is k)))));
-      first_is = ends_without t xs ys first (n t) l.first_is after_is (λ c k. apart t c xs (omega (arith, count t, one t, times-one t, times-append t xs ys)) k);
-      last_is = ends_without t (reverse ys) (reverse xs) last (b t) (l.last_is ∙ ap (λ z. first_or z NONE) turned) before_is
+        (λ c k ne. sb c (omega (arith, k, other_way c)) (λ e. ne (e ∙ sym back_is)))
+        (λ k. subst (λ z. b' z ≡ b t) (sym back_is) (ab (subst (λ m. 0 < m) (other_way (n t)) (subst (λ z. 0 < times z (reverse ys ++ reverse xs)) back_is k)))));
+    first_is = ends_without t xs ys first (n t) l.first_is after_is (λ c k. apart t c xs (omega (arith, count t, one t, times-one t, times-append t xs ys)) k);
+    last_is = ends_without t (reverse ys) (reverse xs) last (b t) (l.last_is ∙ ap (λ z. first_or z NONE) turned) before_is
         (λ c k. apart t c (reverse ys) (omega (arith, times-reverse t ys, count t, one t, times-one t, times-append t xs ys)) k)
         ∙ ap (λ z. first_or z NONE) (sym (reverse-append xs ys));
-    }
+  }
 
 -- the first of a chain to which t was added at the end
 pub starts : (t first : ℕ) (xs : List ℕ) → first ≡ first_or xs NONE → (0 < times first xs → first ≢ NONE) → cond (first == NONE) t first ≡ first_or (xs ++ t ∷ []) NONE
 starts t first [] e ne = rw (eq-eqb first NONE e) refl
 starts t first (x ∷ xs) e ne = elim (first == NONE) as (λ v. (first == NONE) ≡ v → cond v t first ≡ x) [
-    true ↦ λ q. absurd (ne (subst (λ z. 0 < times z (x ∷ xs)) (sym e) (times-self x xs)) (eqb-true first NONE q))
-    | false ↦ λ q. e
-  ] refl
+  | true ↦ λ q. absurd (ne (subst (λ z. 0 < times z (x ∷ xs)) (sym e) (times-self x xs)) (eqb-true first NONE q))
+  | false ↦ λ q. e
+] refl
 
 pub joins : (n b n' b' : ℕ → ℕ) (xs : List ℕ) (t first last : ℕ) → Linked n b xs first last → ((c : ℕ) → times c xs ≤ 1) → times NONE xs ≡ 0
     → ((c : ℕ) → 0 < times c xs → c ≢ last → n' c ≡ n c) → (0 < times last xs → n' last ≡ t) → n' t ≡ NONE
     → ((c : ℕ) → 0 < times c xs → b' c ≡ b c) → b' t ≡ last
     → Linked n' b' (xs ++ t ∷ []) (cond (first == NONE) t first) t
 joins n b n' b' xs t first last l one none sn an en sb ab = record {
-    onward = link_end n n' xs t NONE l.onward one (λ c k ne. sn c k (λ e. ne (e ∙ l.last_is)))
+  onward = link_end n n' xs t NONE l.onward one (λ c k ne. sn c k (λ e. ne (e ∙ l.last_is)))
       (λ k. subst (λ z. n' z ≡ t) l.last_is (an (subst (λ z. 0 < times z xs) (sym l.last_is) k))) en;
-    backward = subst (λ z. Chain b' z NONE) (sym (reverse-append xs (t ∷ [])))
+  backward = subst (λ z. Chain b' z NONE) (sym (reverse-append xs (t ∷ [])))
       (ab ∙ l.last_is, chain_same b b' (reverse xs) NONE (λ c k. sb c (omega (arith, times-reverse c xs, k))) l.backward);
-    first_is = starts t first xs l.first_is (λ k e. let z : 0 < times NONE xs = subst (λ v. 0 < times v xs) e k in omega (arith, z, none));
-    last_is = sym (last_is xs t NONE);
-  }
+  first_is = starts t first xs l.first_is (λ k e. let z : 0 < times NONE xs = subst (λ v. 0 < times v xs) e k in omega (arith, z, none));
+  last_is = sym (last_is xs t NONE);
+}
 
 pub times-filter : (p : ℕ → Bool) (c : ℕ) (xs : List ℕ) → times c (filter p xs) ≤ times c xs
 times-filter p c [] = omega arith
@@ -94,12 +94,12 @@ times-filter p c (x ∷ xs) = let r = times-filter p c xs in elim (p x) as (λ v
 pub filter-pass : (p : ℕ → Bool) (c : ℕ) (xs : List ℕ) → 0 < times c (filter p xs) → p c ≡ true
 filter-pass p c [] k = absurd (omega (arith, k))
 filter-pass p c (x ∷ xs) k = elim (p x) as (λ v. p x ≡ v → 0 < times c (cond v (x ∷ filter p xs) (filter p xs)) → p c ≡ true) [
-    true ↦ λ e h. elim (c == x) as (λ v. (c == x) ≡ v → p c ≡ true) [
-      true ↦ λ q. ap p (eqb-true c x q) ∙ e
-      | false ↦ λ q. filter-pass p c xs (let z : times c (x ∷ filter p xs) ≡ times c (filter p xs) = ap (λ v. cond v 1 0 + times c (filter p xs)) q ∙ zero-add (times c (filter p xs)) in omega (arith, z, h))
-    ] refl
-    | false ↦ λ e h. filter-pass p c xs h
-  ] refl k
+  | true ↦ λ e h. elim (c == x) as (λ v. (c == x) ≡ v → p c ≡ true) [
+    | true ↦ λ q. ap p (eqb-true c x q) ∙ e
+    | false ↦ λ q. filter-pass p c xs (let z : times c (x ∷ filter p xs) ≡ times c (filter p xs) = ap (λ v. cond v 1 0 + times c (filter p xs)) q ∙ zero-add (times c (filter p xs)) in omega (arith, z, h))
+  ] refl
+  | false ↦ λ e h. filter-pass p c xs h
+] refl k
 
 pub filter-same : (p q : ℕ → Bool) (xs : List ℕ) → ((c : ℕ) → 0 < times c xs → q c ≡ p c) → filter q xs ≡ filter p xs
 filter-same p q [] h = refl

@@ -26,10 +26,10 @@ use Rattle.page_pool.proofs.Facts.{link-same, link-other, page-same, entry-same,
 -- a list without its own first is empty
 first_none : (xs : List ℕ) → times (first_or (reverse xs) NONE) xs ≡ 0 → first_or (reverse xs) NONE ≡ NONE
 first_none xs z = elim (reverse xs) as (λ l. reverse xs ≡ l → first_or l NONE ≡ NONE) [
-    [] ↦ λ e. refl
-    | x ∷ l ↦ λ e. absurd (let a : times (first_or (reverse xs) NONE) xs ≡ times x xs = ap (λ k. times (first_or k NONE) xs) e in
-        let b : times x (reverse xs) ≡ times x (x ∷ l) = ap (times x) e in omega (arith, z, a, b, times-reverse x xs, times-self x l))
-  ] refl
+  | [] ↦ λ e. refl
+  | x ∷ l ↦ λ e. absurd (let a : times (first_or (reverse xs) NONE) xs ≡ times x xs = ap (λ k. times (first_or k NONE) xs) e in
+      let b : times x (reverse xs) ≡ times x (x ∷ l) = ap (times x) e in omega (arith, z, a, b, times-reverse x xs, times-self x l))
+] refl
 
 module _ (bytes links : List ℕ) (hs : List Head) (free spare first last count : ℕ) (frames : List Ends) (r : IsRegion bytes links hs free spare first last count frames)
     (bytes' : List ℕ) (h : Head) (m : ℕ) (size : cells_for h.length ≡ suc m) (room : suc m ≤ spare)
@@ -38,7 +38,6 @@ module _ (bytes links : List ℕ) (hs : List Head) (free spare first last count 
     (others : (k : ℕ) → times k (walk (link_of links) (suc m) free) ≡ 0 → (j : ℕ) → j < 32 → get_or bytes' (32 * k + j) 0 ≡ get_or bytes (32 * k + j) 0)
     (t : List ℕ) (written : text bytes' (walk (link_of links) (suc m) free) h.length ≡ t)
     (fits : let q : Page = record { capcode = capcode_in h.address; function = function_in h.address; text = t } in FitsPage q) where
-
   abbrev pub f : ℕ → ℕ
   f = link_of links
 
@@ -114,7 +113,7 @@ module _ (bytes links : List ℕ) (hs : List Head) (free spare first last count 
   mine_chain : Chain (link_of links') mine NONE
   mine_chain = subst (λ l. Chain (link_of links') l NONE) (sym mine_is)
       (chain_end f (link_of links') (walk f m free) end (first_or rest NONE) NONE (subst (λ l. Chain f l (first_or rest NONE)) mine_is (chain_first f mine rest NONE chain))
-        (λ c k. link_else c (apart end c (walk f m free) end_front k)) link_at)
+      (λ c k. link_else c (apart end c (walk f m free) end_front k)) link_at)
 
   rest_chain : Chain (link_of links') rest NONE
   rest_chain = chain_same f (link_of links') rest NONE (λ c k. link_else c (apart end c rest end_rest k)) (chain_rest f mine rest NONE chain)
@@ -164,9 +163,9 @@ module _ (bytes links : List ℕ) (hs : List Head) (free spare first last count 
 
   free_last : free ≢ h.before
   free_last e = elim (leb_tells 1 (times h.before r.order)) [
-      inl k ↦ old_order h.before (omega (arith, k.1)) (sym e)
-      | inr k ↦ free_not (e ∙ last_or ∙ first_none r.order (omega (arith, k.1, ap (λ z. times z r.order) last_or)))
-    ]
+    | inl k ↦ old_order h.before (omega (arith, k.1)) (sym e)
+    | inr k ↦ free_not (e ∙ last_or ∙ first_none r.order (omega (arith, k.1, ap (λ z. times z r.order) last_or)))
+  ]
 
   onward' : Chain (after_of hs') (r.order ++ free ∷ []) NONE
   onward' = link_end (after_of hs) (after_of hs') r.order free NONE r.onward one_order
@@ -178,9 +177,10 @@ module _ (bytes links : List ℕ) (hs : List Head) (free spare first last count 
   turned = reverse-append r.order (free ∷ [])
 
   backward' : Chain (before_of hs') (reverse (r.order ++ free ∷ [])) NONE
-  backward' = subst (λ l. Chain (before_of hs') l NONE) (sym turned)
-      (linked-before_at hs free h free_below ∙ last_or,
-        chain_same (before_of hs) (before_of hs') (reverse r.order) NONE (λ c k. linked-before_other hs free h c (old_order c (omega (arith, times-reverse c r.order, k)))) r.backward)
+  backward' = subst (λ l. Chain (before_of hs') l NONE) (sym turned) (
+    linked-before_at hs free h free_below ∙ last_or,
+    chain_same (before_of hs) (before_of hs') (reverse r.order) NONE (λ c k. linked-before_other hs free h c (old_order c (omega (arith, times-reverse c r.order, k)))) r.backward,
+  )
 
   abbrev pub first' : ℕ
   first' = cond (first == NONE) free first
@@ -205,17 +205,17 @@ module _ (bytes links : List ℕ) (hs : List Head) (free spare first last count 
   -- a page of the longer order is an old one or the new one
   either : (P : ℕ → Type 0) → ((c : ℕ) → 0 < times c r.order → P c) → P free → (c : ℕ) → 0 < times c (r.order ++ free ∷ []) → P c
   either P old new c k = elim (eqb_tells c free) [
-      inl e ↦ subst P (sym e.1) new
-      | inr ne ↦ old c (omega (arith, in_order c, k, times-other c free ne.1))
-    ]
+    | inl e ↦ subst P (sym e.1) new
+    | inr ne ↦ old c (omega (arith, in_order c, k, times-other c free ne.1))
+  ]
 
   live' : (x : ℕ) → x < length hs' → is_some (head hs' x).address ≡ cond (times x (r.order ++ free ∷ []) == 0) false true
   live' x l = elim (eqb_tells x free) [
-      inl e ↦ let z : times x (r.order ++ free ∷ []) ≡ 1 = omega (arith, in_order x, ap (λ v. times v r.order) e.1, free_new, ap (λ v. times v (free ∷ [])) e.1, times-one free) in
+    | inl e ↦ let z : times x (r.order ++ free ∷ []) ≡ 1 = omega (arith, in_order x, ap (λ v. times v r.order) e.1, free_new, ap (λ v. times v (free ∷ [])) e.1, times-one free) in
         ap (λ v. is_some (head hs' v).address) e.1 ∙ linked-live_at hs free h free_below ∙ lives ∙ sym (ap (λ n. cond (n == 0) false true) z)
-      | inr ne ↦ let z : times x r.order ≡ times x (r.order ++ free ∷ []) = omega (arith, in_order x, times-other x free ne.1) in
+    | inr ne ↦ let z : times x r.order ≡ times x (r.order ++ free ∷ []) = omega (arith, in_order x, times-other x free ne.1) in
         linked-live_other hs free h x ne.1 ∙ r.live x (omega (arith, l, cells_same)) ∙ ap (λ n. cond (n == 0) false true) z
-    ]
+  ]
 
   -- the frame of the page, and the ends of its chain with the page
   abbrev pub mate : ℕ
@@ -238,16 +238,16 @@ module _ (bytes links : List ℕ) (hs : List Head) (free spare first last count 
 
   free_mate : free ≢ h.peer_before
   free_mate e = elim (first_in (reverse (old_in mate)) NONE) [
-      inl n ↦ free_not (e ∙ last_mate ∙ n)
-      | inr k ↦ old_order h.peer_before (in_frame_order mate h.peer_before (omega (arith, k, ap (λ z. times z (old_in mate)) last_mate, times-reverse (first_or (reverse (old_in mate)) NONE) (old_in mate)))) (sym e)
-    ]
+    | inl n ↦ free_not (e ∙ last_mate ∙ n)
+    | inr k ↦ old_order h.peer_before (in_frame_order mate h.peer_before (omega (arith, k, ap (λ z. times z (old_in mate)) last_mate, times-reverse (first_or (reverse (old_in mate)) NONE) (old_in mate)))) (sym e)
+  ]
 
   no_mate : (i c : ℕ) → (i ≡ mate → ⊥) → 0 < times c (old_in i) → c ≢ h.peer_before
   no_mate i c ne k same = elim (first_in (reverse (old_in mate)) NONE) [
-      inl n ↦ (let a : 0 < times NONE r.order = subst (λ v. 0 < times v r.order) (same ∙ last_mate ∙ n) (in_frame_order i c k) in omega (arith, a, none_order))
-      | inr j ↦ (let q : 0 < times c (old_in mate) = omega (arith, j, ap (λ z. times z (old_in mate)) (same ∙ last_mate), times-reverse (first_or (reverse (old_in mate)) NONE) (old_in mate)) in
+    | inl n ↦ (let a : 0 < times NONE r.order = subst (λ v. 0 < times v r.order) (same ∙ last_mate ∙ n) (in_frame_order i c k) in omega (arith, a, none_order))
+    | inr j ↦ (let q : 0 < times c (old_in mate) = omega (arith, j, ap (λ z. times z (old_in mate)) (same ∙ last_mate), times-reverse (first_or (reverse (old_in mate)) NONE) (old_in mate)) in
         ne (sym (eqb-true _ _ (filter-pass (of_frame hs i) c r.order k)) ∙ eqb-true _ _ (filter-pass (of_frame hs mate) c r.order q)))
-    ]
+  ]
 
   capcode_new : frame_of (capcode_in (head hs' free).address) ≡ mate
   capcode_new = ap (λ (z : Fixed). frame_of (capcode_in z.address)) (linked-fixed_at hs free h free_below)
@@ -260,9 +260,9 @@ module _ (bytes links : List ℕ) (hs : List Head) (free spare first last count 
   peers' : (i : ℕ) → i < 8 → Linked (peer_after hs') (peer_before hs') (filter (of_frame hs' i) (r.order ++ free ∷ [])) (ends frames' i).first (ends frames' i).last
   peers' i l = subst (λ z. Linked (peer_after hs') (peer_before hs') z (ends frames' i).first (ends frames' i).last) (sym (frame_kept i))
       (elim (eqb_tells i mate) [
-        inl e ↦
-          let old = r.peers mate (omega arith) in
-          let done : Linked (peer_after hs') (peer_before hs') (old_in mate ++ free ∷ []) (cond ((ends frames mate).first == NONE) free (ends frames mate).first) free =
+        | inl e ↦
+            let old = r.peers mate (omega arith) in
+            let done : Linked (peer_after hs') (peer_before hs') (old_in mate ++ free ∷ []) (cond ((ends frames mate).first == NONE) free (ends frames mate).first) free =
             joins (peer_after hs) (peer_before hs) (peer_after hs') (peer_before hs') (old_in mate) free (ends frames mate).first (ends frames mate).last old
             (λ c. omega (arith, times-filter (of_frame hs mate) c r.order, one_order c)) (omega (arith, times-filter (of_frame hs mate) NONE r.order, none_order))
             (λ c k ne. linked-peer_after_other hs free h c (old_order c (in_frame_order mate c k)) (λ q. ne (q ∙ peer_before_is)))
@@ -270,13 +270,13 @@ module _ (bytes links : List ℕ) (hs : List Head) (free spare first last count 
             (linked-peer_after_at hs free h free_below free_mate ∙ peer_after_is)
             (λ c k. linked-peer_before_other hs free h c (old_order c (in_frame_order mate c k)))
             (linked-peer_before_at hs free h free_below ∙ peer_before_is) in
-          let is : ends frames' i ≡ record { first = cond ((ends frames mate).first == NONE) free (ends frames mate).first; last = free } =
+            let is : ends frames' i ≡ record { first = cond ((ends frames mate).first == NONE) free (ends frames mate).first; last = free } =
             ap (ends frames') e.1 ∙ get_or-set_same frames mate _ _ (omega (arith, r.frames_are)) in
-          rw (is, e.1, eq-eqb mate mate refl) done
+            rw (is, e.1, eq-eqb mate mate refl) done
         | inr ne ↦
-          let is : ends frames' i ≡ ends frames i = get_or-set_other frames mate i _ _ ne.1 in
-          let none : (mate == i) ≡ false = not_eqb mate i (λ q. ne.1 (sym q)) in
-          rw (is, none, append-nil) (stays (peer_after hs) (peer_before hs) (peer_after hs') (peer_before hs') (old_in i) (ends frames i).first (ends frames i).last
+            let is : ends frames' i ≡ ends frames i = get_or-set_other frames mate i _ _ ne.1 in
+            let none : (mate == i) ≡ false = not_eqb mate i (λ q. ne.1 (sym q)) in
+            rw (is, none, append-nil) (stays (peer_after hs) (peer_before hs) (peer_after hs') (peer_before hs') (old_in i) (ends frames i).first (ends frames i).last
             (λ c k. linked-peer_after_other hs free h c (old_order c (in_frame_order i c k)) (no_mate i c ne.1 k))
             (λ c k. linked-peer_before_other hs free h c (old_order c (in_frame_order i c k)))
             (r.peers i l))
@@ -303,8 +303,8 @@ module _ (bytes links : List ℕ) (hs : List Head) (free spare first last count 
     free_is = next_is;
     spare_is = omega (arith, r.spare_is, length-drop (suc m) r.unused, room);
     chains = either (λ c. Chain (link_of links') (places links' hs' c) NONE)
-      (λ c k. subst (λ l. Chain (link_of links') l NONE) (sym (places_kept c k)) (chain_same f (link_of links') (places links hs c) NONE (λ x j. link_else x (apart end x (places links hs c) (end_else c k) j)) (r.chains c k)))
-      (subst (λ l. Chain (link_of links') l NONE) (sym places_new) mine_chain);
+        (λ c k. subst (λ l. Chain (link_of links') l NONE) (sym (places_kept c k)) (chain_same f (link_of links') (places links hs c) NONE (λ x j. link_else x (apart end x (places links hs c) (end_else c k) j)) (r.chains c k)))
+        (subst (λ l. Chain (link_of links') l NONE) (sym places_new) mine_chain);
     once = λ x l. all_kept x ∙ r.once x (omega (arith, l, cells_same));
     within = λ x l. all_kept x ∙ r.within x (omega (arith, l, cells_same));
     total = omega (arith, r.total, cells_same, long_new, long_old);

@@ -134,10 +134,10 @@ module _ (s : Inside) (r : Holds s) (w : Pool) (v : view_of s ≡ w) (capcode : 
         entry = entry bytes' L' H' s.free;
         is = put.page_new s.bytes.items s.links.items s.heads.items s.free s.spare s.first s.last s.count s.frames r bytes' hd j.0 j.1 room' refl refl refl refl refl size' others' t written' fits;
         at_end = ap (λ z. map (entry z L H) (walk (after_of H) (s.count + 1) A)) B_is
-          ∙ ap (λ z. map (entry bytes' z H) (walk (after_of H) (s.count + 1) A)) L_is'
-          ∙ ap (λ z. map (entry bytes' L' z) (walk (after_of z) (s.count + 1) A)) H_is
-          ∙ ap (λ z. map (entry bytes' L' H') (walk (after_of H') (s.count + 1) z)) A_is
-          ∙ put.longer s.bytes.items s.links.items s.heads.items s.free s.spare s.first s.last s.count s.frames r bytes' hd j.0 j.1 room' refl refl refl refl refl size' others' t written' fits
-          ∙ ap (λ p. p.live ++ entry bytes' L' H' s.free ∷ []) v;
+            ∙ ap (λ z. map (entry bytes' z H) (walk (after_of H) (s.count + 1) A)) L_is'
+            ∙ ap (λ z. map (entry bytes' L' z) (walk (after_of z) (s.count + 1) A)) H_is
+            ∙ ap (λ z. map (entry bytes' L' H') (walk (after_of H') (s.count + 1) z)) A_is
+            ∙ put.longer s.bytes.items s.links.items s.heads.items s.free s.spare s.first s.last s.count s.frames r bytes' hd j.0 j.1 room' refl refl refl refl refl size' others' t written' fits
+            ∙ ap (λ p. p.live ++ entry bytes' L' H' s.free ∷ []) v;
         spare = let a : s.spare - k + cells_for (length t) ≡ s.spare = omega (arith, room, kind) in a ∙ ap (λ p. p.spare) v;
       }

@@ -46,16 +46,16 @@ no_length (x ∷ xs) e = absurd (omega (arith, e))
 find_none : (g : ℕ → Live) (p : Live → Bool) (xs : List ℕ) → filter (λ c. p (g c)) xs ≡ [] → find p (map g xs) ≡ None
 find_none g p [] e = refl
 find_none g p (x ∷ xs) e = elim (p (g x)) as (λ v. cond v (x ∷ filter (λ c. p (g c)) xs) (filter (λ c. p (g c)) xs) ≡ [] → cond v (Some (g x)) (find p (map g xs)) ≡ None) [
-    true ↦ λ h. absurd (cc)
-    | false ↦ λ h. find_none g p xs h
-  ] e
+  | true ↦ λ h. absurd (cc)
+  | false ↦ λ h. find_none g p xs h
+] e
 
 find_some : (g : ℕ → Live) (p : Live → Bool) (xs : List ℕ) (c : ℕ) (r : List ℕ) → filter (λ d. p (g d)) xs ≡ c ∷ r → find p (map g xs) ≡ Some (g c)
 find_some g p [] c r e = absurd (cc)
 find_some g p (x ∷ xs) c r e = elim (p (g x)) as (λ v. cond v (x ∷ filter (λ d. p (g d)) xs) (filter (λ d. p (g d)) xs) ≡ c ∷ r → cond v (Some (g x)) (find p (map g xs)) ≡ Some (g c)) [
-    true ↦ λ h. (let q : x ≡ c = cc in ap (λ z. Some (g z)) q)
-    | false ↦ λ h. find_some g p xs c r h
-  ] e
+  | true ↦ λ h. (let q : x ≡ c = cc in ap (λ z. Some (g z)) q)
+  | false ↦ λ h. find_some g p xs c r h
+] e
 
 is_some_of : {X : Type 0} (o : Option X) → is_some o ≡ true → IsSome o
 is_some_of None h = absurd (cc)
@@ -133,22 +133,22 @@ module _ (s : Inside) (r : Holds s) (w : Pool) (v : view_of s ≡ w) where
     pub byte_is : (i : ℕ) → i < length e.page.text → slice_index e.page.text i ≡ get_or s.bytes.items (32 * slice_index e.places (i / 32) + i % 32) 0
     byte_is i h =
         let a : get_or (text s.bytes.items (places links hs t) (head hs t).length) i 0 ≡ byte_at s.bytes.items (places links hs t) i =
-          get_or-map-range_with_len (byte_at s.bytes.items (places links hs t)) 0 (head hs t).length i i 0 (omega (arith, h, len_is)) (omega arith) in
+        get_or-map-range_with_len (byte_at s.bytes.items (places links hs t)) 0 (head hs t).length i i 0 (omega (arith, h, len_is)) (omega arith) in
         sym (ap (λ x. get_or x.page.text i 0) entry_is) ∙ a ∙ ap (λ x. byte_at s.bytes.items x.places i) entry_is
 
   pub no_first : (f : ℕ) → f < 8 → (ends s.frames f).first ≡ NONE → find (in_frame f) w.live ≡ None
   no_first f l n = ap (find (in_frame f)) live_is ∙ find_none at (in_frame f) r.order
       (elim (filter (of_frame hs f) r.order) as (λ xs. filter (of_frame hs f) r.order ≡ xs → xs ≡ []) [
-        [] ↦ λ e. refl
+        | [] ↦ λ e. refl
         | c ∷ xs ↦ λ e. absurd (let q : NONE ≡ c = sym n ∙ (r.peers f l).first_is ∙ ap (λ z. first_or z NONE) e in
-          let k : 0 < times c r.order = omega (arith, times-filter (of_frame hs f) c r.order, ap (times c) e, times-self c xs) in
-          omega (arith, q, facts.below_order s.bytes.items links hs s.free s.spare s.first s.last s.count s.frames r c k, r.most))
+            let k : 0 < times c r.order = omega (arith, times-filter (of_frame hs f) c r.order, ap (times c) e, times-self c xs) in
+            omega (arith, q, facts.below_order s.bytes.items links hs s.free s.spare s.first s.last s.count s.frames r c k, r.most))
       ] refl)
 
   pub some_first : (f : ℕ) → f < 8 → (ends s.frames f).first ≢ NONE → find (in_frame f) w.live ≡ Some (at (ends s.frames f).first)
   some_first f l ne = ap (find (in_frame f)) live_is ∙
       (elim (filter (of_frame hs f) r.order) as (λ xs. filter (of_frame hs f) r.order ≡ xs → find (in_frame f) (map at r.order) ≡ Some (at (ends s.frames f).first)) [
-        [] ↦ λ e. absurd (ne ((r.peers f l).first_is ∙ ap (λ z. first_or z NONE) e))
+        | [] ↦ λ e. absurd (ne ((r.peers f l).first_is ∙ ap (λ z. first_or z NONE) e))
         | c ∷ xs ↦ λ e. find_some at (in_frame f) r.order c xs e ∙ ap (λ z. Some (at z)) (sym ((r.peers f l).first_is ∙ ap (λ z. first_or z NONE) e))
       ] refl)
 

@@ -49,10 +49,10 @@ module _ (s : Inside) (r : Holds s) (w : Pool) (v : view_of s ≡ w) where
 
   pub sound : Sound w
   sound = record {
-      tickets = λ t. omega (arith, ap (λ l. times t (map (λ (e : Live). e.ticket) l)) (reading.live_is s r w v), ap (times t) (tickets-map s.bytes.items s.links.items s.heads.items r.order), facts.one_order s.bytes.items s.links.items s.heads.items s.free s.spare s.first s.last s.count s.frames r t);
-      pages = lies;
-      below = λ x k. omega (arith, all_is, facts.below_used s.bytes.items s.links.items s.heads.items s.free s.spare s.first s.last s.count s.frames r x (omega (arith, k, ap (times x) places_are)));
-      apart = λ x. omega (arith, ap (times x) places_are, facts.one s.bytes.items s.links.items s.heads.items s.free s.spare s.first s.last s.count s.frames r x);
-      some = omega (arith, all_is, r.some);
-      most = omega (arith, all_is, r.most);
-    }
+    tickets = λ t. omega (arith, ap (λ l. times t (map (λ (e : Live). e.ticket) l)) (reading.live_is s r w v), ap (times t) (tickets-map s.bytes.items s.links.items s.heads.items r.order), facts.one_order s.bytes.items s.links.items s.heads.items s.free s.spare s.first s.last s.count s.frames r t);
+    pages = lies;
+    below = λ x k. omega (arith, all_is, facts.below_used s.bytes.items s.links.items s.heads.items s.free s.spare s.first s.last s.count s.frames r x (omega (arith, k, ap (times x) places_are)));
+    apart = λ x. omega (arith, ap (times x) places_are, facts.one s.bytes.items s.links.items s.heads.items s.free s.spare s.first s.last s.count s.frames r x);
+    some = omega (arith, all_is, r.some);
+    most = omega (arith, all_is, r.most);
+  }

@@ -25,7 +25,6 @@ use Rattle.page_pool.proofs.Facts.{link-same, link-other, page-same, entry-same,
 
 module _ (bytes links : List ℕ) (hs : List Head) (free spare first last count : ℕ) (frames : List Ends) (r : IsRegion bytes links hs free spare first last count frames)
     (t m : ℕ) (front back : List ℕ) (split : r.order ≡ front ++ t ∷ back) (size : cells_for (head hs t).length ≡ suc m) where
-
   abbrev pub f : ℕ → ℕ
   f = link_of links
 
@@ -128,7 +127,7 @@ module _ (bytes links : List ℕ) (hs : List Head) (free spare first last count 
       (λ c. omega (arith, in_order c, one_order c)) (omega (arith, in_order NONE, none_order))
       (λ c k ne. unlinked-after_other hs t c (λ e. ne (e ∙ before_is)))
       (λ k. let k' : 0 < times (head hs t).before (front ++ back) = subst (λ z. 0 < times z (front ++ back)) (sym before_is) k in
-        subst (λ z. after_of hs' z ≡ after_of hs t) before_is (unlinked-after_at hs t (below' (head hs t).before k')))
+      subst (λ z. after_of hs' z ≡ after_of hs t) before_is (unlinked-after_at hs t (below' (head hs t).before k')))
 
   times_turned : (x : ℕ) → times x (reverse back ++ reverse front) ≡ times x (front ++ back)
   times_turned x = ap (times x) (sym turned_back) ∙ times-reverse x (front ++ back)
@@ -139,10 +138,10 @@ module _ (bytes links : List ℕ) (hs : List Head) (free spare first last count 
   backward' : Chain (before_of hs') (reverse (front ++ back)) NONE
   backward' = subst (λ l. Chain (before_of hs') l NONE) (sym turned_back)
       (unlink (before_of hs) (before_of hs') (reverse back) t (reverse front) NONE backward
-        (λ c. omega (arith, in_order c, one_order c, times_turned c)) (omega (arith, in_order NONE, none_order, times_turned NONE))
-        (λ c k ne. unlinked-before_other hs t c (λ e. ne (e ∙ sym back_is)))
-        (λ k. let k' : 0 < times (head hs t).after (front ++ back) = subst (λ n. 0 < n) (times_turned (head hs t).after) (subst (λ z. 0 < times z (reverse back ++ reverse front)) back_is k) in
-          subst (λ z. before_of hs' z ≡ before_of hs t) (sym back_is) (unlinked-before_at hs t (below' (head hs t).after k'))))
+      (λ c. omega (arith, in_order c, one_order c, times_turned c)) (omega (arith, in_order NONE, none_order, times_turned NONE))
+      (λ c k ne. unlinked-before_other hs t c (λ e. ne (e ∙ sym back_is)))
+      (λ k. let k' : 0 < times (head hs t).after (front ++ back) = subst (λ n. 0 < n) (times_turned (head hs t).after) (subst (λ z. 0 < times z (reverse back ++ reverse front)) back_is k) in
+      subst (λ z. before_of hs' z ≡ before_of hs t) (sym back_is) (unlinked-before_at hs t (below' (head hs t).after k'))))
 
   abbrev pub first' : ℕ
   first' = cond (first == t) (head hs t).after first
@@ -156,7 +155,7 @@ module _ (bytes links : List ℕ) (hs : List Head) (free spare first last count 
   last_is' : last' ≡ first_or (reverse (front ++ back)) NONE
   last_is' = ends_without t (reverse back) (reverse front) last (head hs t).before (r.last_is ∙ ap (λ l. first_or l NONE) turned) before_is
       (λ c k. apart t c (reverse back) (omega (arith, times-reverse t back, in_order t, one_order t, times-one t, times-append t front back)) k)
-    ∙ ap (λ l. first_or l NONE) (sym turned_back)
+      ∙ ap (λ l. first_or l NONE) (sym turned_back)
 
   -- the freed cells lead into the spare ones
   mine_chain : Chain f (walk f m t ++ end ∷ []) NONE
@@ -171,7 +170,7 @@ module _ (bytes links : List ℕ) (hs : List Head) (free spare first last count 
   free_chain' : Chain (link_of links') (mine ++ r.unused) NONE
   free_chain' = chain_join (link_of links') mine r.unused NONE
       (subst (λ l. Chain (link_of links') l (first_or r.unused NONE)) (sym mine_is)
-        (chain_end f (link_of links') (walk f m t) end NONE (first_or r.unused NONE) mine_chain (λ c k. link_else c (apart end c (walk f m t) end_front k)) (link_at ∙ r.free_is)))
+      (chain_end f (link_of links') (walk f m t) end NONE (first_or r.unused NONE) mine_chain (λ c k. link_else c (apart end c (walk f m t) end_front k)) (link_at ∙ r.free_is)))
       (chain_same f (link_of links') r.unused NONE (λ c k. link_else c (apart end c r.unused end_unused k)) r.free_chain)
 
   free_is' : t ≡ first_or (mine ++ r.unused) NONE
@@ -188,11 +187,11 @@ module _ (bytes links : List ℕ) (hs : List Head) (free spare first last count 
 
   live' : (x : ℕ) → x < length hs' → is_some (head hs' x).address ≡ cond (times x (front ++ back) == 0) false true
   live' x l = elim (eqb_tells x t) [
-      inl e ↦ let z : times x (front ++ back) ≡ 0 = omega (arith, in_order x, one_order x, ap (λ v. times x (v ∷ [])) (sym e.1), times-one x) in
+    | inl e ↦ let z : times x (front ++ back) ≡ 0 = omega (arith, in_order x, one_order x, ap (λ v. times x (v ∷ [])) (sym e.1), times-one x) in
         ap (λ v. is_some (head hs' v).address) e.1 ∙ unlinked-live_at hs t t_below ∙ sym (ap (λ n. cond (n == 0) false true) z)
-      | inr ne ↦ let z : times x r.order ≡ times x (front ++ back) = omega (arith, in_order x, times-other x t ne.1) in
+    | inr ne ↦ let z : times x r.order ≡ times x (front ++ back) = omega (arith, in_order x, times-other x t ne.1) in
         unlinked-live_other hs t x ne.1 ∙ r.live x (omega (arith, l, length-unlinked hs t)) ∙ ap (λ n. cond (n == 0) false true) z
-    ]
+  ]
 
   count_is' : count - 1 ≡ length (front ++ back)
   count_is' = omega (arith, r.count_is, ap length split, length-append front (t ∷ back), length-append front back)
@@ -234,9 +233,9 @@ module _ (bytes links : List ℕ) (hs : List Head) (free spare first last count 
 
   in_frame_pass : (i c : ℕ) → 0 < times c (old_in i front ++ old_in i back) → of_frame hs i c ≡ true
   in_frame_pass i c k = elim (leb_tells 1 (times c (old_in i front))) [
-      inl h ↦ filter-pass (of_frame hs i) c front (omega (arith, h.1))
-      | inr h ↦ filter-pass (of_frame hs i) c back (omega (arith, h.1, k, times-append c (old_in i front) (old_in i back)))
-    ]
+    | inl h ↦ filter-pass (of_frame hs i) c front (omega (arith, h.1))
+    | inr h ↦ filter-pass (of_frame hs i) c back (omega (arith, h.1, k, times-append c (old_in i front) (old_in i back)))
+  ]
 
   peer_before_is : (head hs t).peer_before ≡ first_or (reverse (old_in mate front)) NONE
   peer_before_is = before_is' (peer_after hs) (peer_before hs) (peer_after hs) (peer_before hs) (old_in mate front) t (old_in mate back) (ends frames mate).first (ends frames mate).last mate_chain one_mate none_mate
@@ -247,9 +246,9 @@ module _ (bytes links : List ℕ) (hs : List Head) (free spare first last count 
   -- a page of another frame is no neighbour of this one
   no_mate : (i c z : ℕ) → (i ≡ mate → ⊥) → 0 < times c (old_in i front ++ old_in i back) → (xs : List ℕ) → z ≡ first_or xs NONE → ((d : ℕ) → 0 < times d xs → of_frame hs mate d ≡ true) → c ≢ z
   no_mate i c z ne k xs e pass same = elim (first_in xs NONE) [
-      inl n ↦ (let a : 0 < times NONE (front ++ back) = subst (λ v. 0 < times v (front ++ back)) (same ∙ e ∙ n) (in_frame_order i c k) in omega (arith, a, in_order NONE, none_order))
-      | inr h ↦ ne (sym (eqb-true _ _ (in_frame_pass i c k)) ∙ eqb-true _ _ (ap (of_frame hs mate) (same ∙ e) ∙ pass (first_or xs NONE) h))
-    ]
+    | inl n ↦ (let a : 0 < times NONE (front ++ back) = subst (λ v. 0 < times v (front ++ back)) (same ∙ e ∙ n) (in_frame_order i c k) in omega (arith, a, in_order NONE, none_order))
+    | inr h ↦ ne (sym (eqb-true _ _ (in_frame_pass i c k)) ∙ eqb-true _ _ (ap (of_frame hs mate) (same ∙ e) ∙ pass (first_or xs NONE) h))
+  ]
 
   frame_kept : (i : ℕ) → filter (of_frame hs' i) (front ++ back) ≡ old_in i front ++ old_in i back
   frame_kept i = filter-same (of_frame hs i) (of_frame hs' i) (front ++ back) (λ c k. ap (λ (z : Fixed). frame_of (capcode_in z.address) == i) (unlinked-fixed hs t c (stays_other c k))) ∙ filter-append (of_frame hs i) front back
@@ -257,19 +256,19 @@ module _ (bytes links : List ℕ) (hs : List Head) (free spare first last count 
   peers' : (i : ℕ) → i < 8 → Linked (peer_after hs') (peer_before hs') (filter (of_frame hs' i) (front ++ back)) (ends frames' i).first (ends frames' i).last
   peers' i l = subst (λ z. Linked (peer_after hs') (peer_before hs') z (ends frames' i).first (ends frames' i).last) (sym (frame_kept i))
       (elim (eqb_tells i mate) [
-        inl e ↦
-          let done : Linked (peer_after hs') (peer_before hs') (old_in mate front ++ old_in mate back) (cond ((ends frames mate).first == t) (head hs t).peer_after (ends frames mate).first) (cond ((ends frames mate).last == t) (head hs t).peer_before (ends frames mate).last) =
+        | inl e ↦
+            let done : Linked (peer_after hs') (peer_before hs') (old_in mate front ++ old_in mate back) (cond ((ends frames mate).first == t) (head hs t).peer_after (ends frames mate).first) (cond ((ends frames mate).last == t) (head hs t).peer_before (ends frames mate).last) =
             leaves (peer_after hs) (peer_before hs) (peer_after hs') (peer_before hs') (old_in mate front) t (old_in mate back) (ends frames mate).first (ends frames mate).last mate_chain one_mate none_mate
             (λ c k ne. unlinked-peer_after_other hs t c ne) (λ k. unlinked-peer_after_at hs t (below' (head hs t).peer_before (in_frame_order mate (head hs t).peer_before k)))
             (λ c k ne. unlinked-peer_before_other hs t c ne) (λ k. unlinked-peer_before_at hs t (below' (head hs t).peer_after (in_frame_order mate (head hs t).peer_after k))) in
-          let is : ends frames' i ≡ record { first = cond ((ends frames mate).first == t) (head hs t).peer_after (ends frames mate).first; last = cond ((ends frames mate).last == t) (head hs t).peer_before (ends frames mate).last } =
+            let is : ends frames' i ≡ record { first = cond ((ends frames mate).first == t) (head hs t).peer_after (ends frames mate).first; last = cond ((ends frames mate).last == t) (head hs t).peer_before (ends frames mate).last } =
             ap (ends frames') e.1 ∙ get_or-set_same frames mate _ _ (omega (arith, r.frames_are)) in
-          rw (is, e.1) done
+            rw (is, e.1) done
         | inr ne ↦
-          let is : ends frames' i ≡ ends frames i = get_or-set_other frames mate i _ _ ne.1 in
-          let old : Linked (peer_after hs) (peer_before hs) (old_in i front ++ old_in i back) (ends frames i).first (ends frames i).last =
+            let is : ends frames' i ≡ ends frames i = get_or-set_other frames mate i _ _ ne.1 in
+            let old : Linked (peer_after hs) (peer_before hs) (old_in i front ++ old_in i back) (ends frames i).first (ends frames i).last =
             subst (λ z. Linked (peer_after hs) (peer_before hs) z (ends frames i).first (ends frames i).last) (other_list i ne.1) (r.peers i l) in
-          rw is (stays (peer_after hs) (peer_before hs) (peer_after hs') (peer_before hs') (old_in i front ++ old_in i back) (ends frames i).first (ends frames i).last
+            rw is (stays (peer_after hs) (peer_before hs) (peer_after hs') (peer_before hs') (old_in i front ++ old_in i back) (ends frames i).first (ends frames i).last
             (λ c k. unlinked-peer_after_other hs t c (no_mate i c (head hs t).peer_before ne.1 k (reverse (old_in mate front)) peer_before_is (λ d h. filter-pass (of_frame hs mate) d front (omega (arith, h, times-reverse d (old_in mate front))))))
             (λ c k. unlinked-peer_before_other hs t c (no_mate i c (head hs t).peer_after ne.1 k (old_in mate back) peer_after_is (λ d h. filter-pass (of_frame hs mate) d back h)))
             old)
@@ -300,7 +299,7 @@ module _ (bytes links : List ℕ) (hs : List Head) (free spare first last count 
     free_is = free_is';
     spare_is = spare_is';
     chains = λ c k. subst (λ l. Chain (link_of links') l NONE) (sym (places_kept c k))
-      (chain_same f (link_of links') (places links hs c) NONE (λ x j. link_else x (apart end x (places links hs c) (end_else c k) j)) (r.chains c (kept c k)));
+        (chain_same f (link_of links') (places links hs c) NONE (λ x j. link_else x (apart end x (places links hs c) (end_else c k) j)) (r.chains c (kept c k)));
     once = λ x l. all_kept x ∙ r.once x (omega (arith, l, cells_same));
     within = λ x l. all_kept x ∙ r.within x (omega (arith, l, cells_same));
     total = omega (arith, r.total, cells_same, long_new, long_old);
@@ -317,7 +316,7 @@ module _ (bytes links : List ℕ) (hs : List Head) (free spare first last count 
 
   pub left : map (entry bytes links' hs') (walk (after_of hs') (count - 1) first') ≡ map (entry bytes links hs) front ++ map (entry bytes links hs) back
   left = ap (map (entry bytes links' hs')) (ap (λ n. walk (after_of hs') n first') count_is' ∙ ap (walk (after_of hs') (length (front ++ back))) first_is' ∙ walk_is (after_of hs') (front ++ back) NONE onward')
-    ∙ map-same (entry bytes links hs) (entry bytes links' hs') (front ++ back) entry_kept ∙ map-append (entry bytes links hs) front back
+      ∙ map-same (entry bytes links hs) (entry bytes links' hs') (front ++ back) entry_kept ∙ map-append (entry bytes links hs) front back
 
   pub mine_below : (x : ℕ) → 0 < times x mine → x < length links
   mine_below x k = let b = facts.below_used bytes links hs free spare first last count frames r x (omega (arith, in_used x, k)) in omega (arith, b, r.links_cells)

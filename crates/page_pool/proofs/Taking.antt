@@ -103,15 +103,15 @@ module _ (s : Inside) (r : Holds s) (w : Pool) (v : view_of s ≡ w) (t name : �
 
     pub meets : (let new : Pool = record { live = map (entry s.bytes.items L H) (walk (after_of H) (s.count - 1) A); spare = s.spare + k; region = s.bytes.items } in Takes w new name)
     meets = record {
-        before = map (entry s.bytes.items links hs) sp.0;
-        entry = entry s.bytes.items links hs t;
-        after = map (entry s.bytes.items links hs) sp.1;
-        ticket = n;
-        was = sym (ap (λ p. p.live) v) ∙ take.was s.bytes.items links hs s.free s.spare s.first s.last s.count s.frames r t m.0 sp.0 sp.1 sp.2 m.1;
-        left = ap (λ z. map (entry s.bytes.items z H) (walk (after_of H) (s.count - 1) A)) L_is'
+      before = map (entry s.bytes.items links hs) sp.0;
+      entry = entry s.bytes.items links hs t;
+      after = map (entry s.bytes.items links hs) sp.1;
+      ticket = n;
+      was = sym (ap (λ p. p.live) v) ∙ take.was s.bytes.items links hs s.free s.spare s.first s.last s.count s.frames r t m.0 sp.0 sp.1 sp.2 m.1;
+      left = ap (λ z. map (entry s.bytes.items z H) (walk (after_of H) (s.count - 1) A)) L_is'
           ∙ ap (λ z. map (entry s.bytes.items (slice_set links (step (link_of links) m.0 t) s.free) z) (walk (after_of z) (s.count - 1) A)) H_is
           ∙ ap (λ z. map (entry s.bytes.items (slice_set links (step (link_of links) m.0 t) s.free) (unlinked hs t)) (walk (after_of (unlinked hs t)) (s.count - 1) z)) A_is'
           ∙ take.left s.bytes.items links hs s.free s.spare s.first s.last s.count s.frames r t m.0 sp.0 sp.1 sp.2 m.1;
-        spare = ap (λ z. s.spare + z) (kind ∙ ap cells_for (sym (length-text s.bytes.items (places links hs t) (head hs t).length))) ∙ ap (λ p. p.spare + cells_of (page_at s.bytes.items links hs t)) v;
-        region = ap (λ p. p.region) v;
-      }
+      spare = ap (λ z. s.spare + z) (kind ∙ ap cells_for (sym (length-text s.bytes.items (places links hs t) (head hs t).length))) ∙ ap (λ p. p.spare + cells_of (page_at s.bytes.items links hs t)) v;
+      region = ap (λ p. p.region) v;
+    }

@@ -45,7 +45,7 @@ pub text-same : (old new cells : List ℕ) (n : ℕ) → SameCells old new cells
 text-same old new cells n same size =
     map-range_same (byte_at old cells) (byte_at new cells) 0 n
     (λ i l k. let m : i / 32 < length cells = omega (arith, cells_for-enough n i (omega (arith, k))) in
-      same (get_or cells (i / 32) 0) (times-read cells (i / 32) 0 m) (i % 32) (omega arith))
+    same (get_or cells (i / 32) 0) (times-read cells (i / 32) 0 m) (i % 32) (omega arith))
 
 pub step_in : (f : ℕ → ℕ) (n c k : ℕ) → k < n → 0 < times (step f k c) (walk f n c)
 step_in f n c k h = subst (λ z. 0 < times z (walk f n c)) (get_or-walk f n c k 0 h) (times-read (walk f n c) k 0 (omega (arith, h, length-walk f n c)))
@@ -65,17 +65,17 @@ pub written_more : (bytes cells chars : List ℕ) (i a v : ℕ) → ((c : ℕ) �
     → (k : ℕ) → k < i + 1 → byte_at (set bytes a v) cells k ≡ get_or chars k 0
 written_more bytes cells chars i a v one l at within read before k h =
     elim (eqb_tells k i) [
-      inl e ↦ ap (λ z. byte_at (set bytes a v) cells z) e.1 ∙ ap (λ z. get_or (set bytes a v) z 0) (sym at) ∙ get_or-set_same bytes a v 0 within ∙ read ∙ ap (λ z. get_or chars z 0) (sym e.1)
+      | inl e ↦ ap (λ z. byte_at (set bytes a v) cells z) e.1 ∙ ap (λ z. get_or (set bytes a v) z 0) (sym at) ∙ get_or-set_same bytes a v 0 within ∙ read ∙ ap (λ z. get_or chars z 0) (sym e.1)
       | inr ne ↦ let less : k < i = omega (arith, h, ne.1) in
-        get_or-set_other bytes a (32 * get_or cells (k / 32) 0 + k % 32) v 0 (λ e. bytes_apart cells k i one l less (e ∙ at)) ∙ before k less
+          get_or-set_other bytes a (32 * get_or cells (k / 32) 0 + k % 32) v 0 (λ e. bytes_apart cells k i one l less (e ∙ at)) ∙ before k less
     ]
 
 pub others_more : (bytes cells : List ℕ) (i a v : ℕ) → i / 32 < length cells → a ≡ 32 * get_or cells (i / 32) 0 + i % 32
     → (k : ℕ) → times k cells ≡ 0 → (j : ℕ) → j < 32 → get_or (set bytes a v) (32 * k + j) 0 ≡ get_or bytes (32 * k + j) 0
 others_more bytes cells i a v l at k none j h =
     get_or-set_other bytes a (32 * k + j) v 0 (λ e. let q : get_or cells (i / 32) 0 ≡ k = omega (arith, e, at, h) in
-      let p : 0 < times (get_or cells (i / 32) 0) cells = times-read cells (i / 32) 0 l in
-      let p' : 0 < times k cells = subst (λ z. 0 < times z cells) q p in omega (arith, p', none))
+    let p : 0 < times (get_or cells (i / 32) 0) cells = times-read cells (i / 32) 0 l in
+    let p' : 0 < times k cells = subst (λ z. 0 < times z cells) q p in omega (arith, p', none))
 
 pub text_is : (bytes cells chars : List ℕ) → ((k : ℕ) → k < length chars → byte_at bytes cells k ≡ get_or chars k 0) → text bytes cells (length chars) ≡ chars
 text_is bytes cells chars h = sym (fill_by_all (byte_at bytes cells) chars (length chars) 0 refl (λ k l. sym (h k l)))

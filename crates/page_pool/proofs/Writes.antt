@@ -112,4 +112,3 @@ module _ (hs : List Head) (c : ℕ) (h : Head) where
 
   pub length-linked : length (linked hs c h) ≡ length hs
   length-linked = length-set _ h.peer_before _ ∙ length-set _ h.before _ ∙ length-set hs c h
-

@@ -137,4 +137,3 @@ pub record IsRegion (bytes links : List ℕ) (hs : List Head) (free spare first 
   pub bytes_cells : length bytes ≡ 32 * length hs
   pub some : 0 < length hs
   pub most : length hs ≤ 65536
-

@@ -61,11 +61,7 @@ pub(crate) fn frame_in(address: Option<Address>) -> u32
 pub(crate) fn replaced(now: u32, from: u32, to: u32) -> u32
     ensures { result ≡ cond (now == from) to now }
 {
-    if now == from {
-        to
-    } else {
-        now
-    }
+    if now == from { to } else { now }
 }
 
 /// Links a cell's head on to another, where it has one.

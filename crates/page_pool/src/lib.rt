@@ -17,3 +17,9 @@ pub mod pool;
 
 pub use pool::{Full, Pool, Ticket};
 
+#[cfg(test)]
+mod callers;
+#[cfg(test)]
+mod tests;
+#[cfg(test)]
+mod twin;

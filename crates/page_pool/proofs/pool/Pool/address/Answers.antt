@@ -18,6 +18,7 @@ pub returns : goal.returns
 returns c e n =
     let b = reading.below c.self.inside c.self.invariant _ c.self.view_is c.t.inside.cell c.args.t c.t.view_is e n in
     let h = read_head c.self.inside.heads.items c.t.inside.cell _ b c.index-head.ensures in
-    let is = reading.entry_is c.self.inside c.self.invariant _ c.self.view_is c.t.inside.cell c.args.t c.t.view_is e n in
-    (ap capcode_in (sym c.unwrap.ensures) ∙ ap (λ (k : Head). capcode_in k.address) h ∙ ap (λ x. x.page.capcode) is,
-      ap function_in (sym c.unwrap.ensures) ∙ ap (λ (k : Head). function_in k.address) h ∙ ap (λ x. x.page.function) is)
+    let is = reading.entry_is c.self.inside c.self.invariant _ c.self.view_is c.t.inside.cell c.args.t c.t.view_is e n in (
+      ap capcode_in (sym c.unwrap.ensures) ∙ ap (λ (k : Head). capcode_in k.address) h ∙ ap (λ x. x.page.capcode) is,
+      ap function_in (sym c.unwrap.ensures) ∙ ap (λ (k : Head). function_in k.address) h ∙ ap (λ x. x.page.function) is,
+    )

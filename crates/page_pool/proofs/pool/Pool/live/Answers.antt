@@ -17,9 +17,10 @@ pub returns-then-t-len : goal.returns-then-t-len
 returns-then-t-len c =
     let l = (let b : c.t.inside.cell < length c.self.inside.heads.items = omega (arith, c.if-t-len.true, c.len.ensures, c.self.inside.heads.ok.0) in b) in
     let e = read_head c.self.inside.heads.items c.t.inside.cell _ l c.index.ensures in
-    let f = c.is_some.ensures ∙ ap (λ (z : Head). is_some z.address) e in
-    (λ h. subst (λ z. IsLive c.args.self.now z) c.t.view_is (reading.live_yes c.self.inside c.self.invariant _ c.self.view_is c.t.inside.cell l (sym f ∙ true_of _ h)),
-      λ h. of_true _ (f ∙ reading.live_no c.self.inside c.self.invariant _ c.self.view_is c.t.inside.cell c.args.t c.t.view_is h))
+    let f = c.is_some.ensures ∙ ap (λ (z : Head). is_some z.address) e in (
+      λ h. subst (λ z. IsLive c.args.self.now z) c.t.view_is (reading.live_yes c.self.inside c.self.invariant _ c.self.view_is c.t.inside.cell l (sym f ∙ true_of _ h)),
+      λ h. of_true _ (f ∙ reading.live_no c.self.inside c.self.invariant _ c.self.view_is c.t.inside.cell c.args.t c.t.view_is h),
+    )
 
 pub returns-else-t-len : goal.returns-else-t-len
 returns-else-t-len c =

@@ -26,10 +26,10 @@ cell_at-end-requires c =
     (c.cells_for-cells.ensures ∙ ap (λ h. cells_for h.length) (read_head c.self.inside.heads.items c.t.inside.cell _ b c.index-head.ensures))
 
 pub set_link-requires : goal.set_link-requires
-set_link-requires c = 
+set_link-requires c =
     let b = taking.below c.self.inside c.self.invariant c.args.self.now c.self.view_is c.t.inside.cell c.args.t c.t.view_is c.requires in
     let k : c.cells_for-cells.result ≡ cells_for (head c.self.inside.heads.items c.t.inside.cell).length =
-      c.cells_for-cells.ensures ∙ ap (λ h. cells_for h.length) (read_head c.self.inside.heads.items c.t.inside.cell _ b c.index-head.ensures) in
+    c.cells_for-cells.ensures ∙ ap (λ h. cells_for h.length) (read_head c.self.inside.heads.items c.t.inside.cell _ b c.index-head.ensures) in
     let e = taking.end_is c.self.inside c.self.invariant c.args.self.now c.self.view_is c.t.inside.cell c.args.t c.t.view_is c.requires _ _ _ c.deref.ensures.value k c.cell_at-end.ensures in
     let u = taking.end_below c.self.inside c.self.invariant c.args.self.now c.self.view_is c.t.inside.cell c.args.t c.t.view_is c.requires in
     omega (arith, e, u, ap length c.deref_mut.ensures.value)
@@ -38,7 +38,7 @@ pub overflow_add-self : goal.overflow_add-self
 overflow_add-self c =
     let b = taking.below c.self.inside c.self.invariant c.args.self.now c.self.view_is c.t.inside.cell c.args.t c.t.view_is c.requires in
     let k : c.cells_for-cells.result ≡ cells_for (head c.self.inside.heads.items c.t.inside.cell).length =
-      c.cells_for-cells.ensures ∙ ap (λ h. cells_for h.length) (read_head c.self.inside.heads.items c.t.inside.cell _ b c.index-head.ensures) in
+    c.cells_for-cells.ensures ∙ ap (λ h. cells_for h.length) (read_head c.self.inside.heads.items c.t.inside.cell _ b c.index-head.ensures) in
     let s = taking.spare_fits c.self.inside c.self.invariant c.args.self.now c.self.view_is c.t.inside.cell c.args.t c.t.view_is c.requires _ k in
     omega (arith, s)
 
