@@ -3,6 +3,7 @@ use Rattle.std.proofs.Common.{◌≡◌, ℕ, ◌+◌, List, [], ◌∷◌, ◌+
 use Rattle.page_pool.specs.Cells.{cells_of}
 use Rattle.page_pool.specs.Pool.{Live, Pool, in_use, cells, Takes, Puts}
 
+-- the cells of two lists of pages joined
 pub in_use-append : (xs ys : List Live) → in_use (xs ++ ys) ≡ in_use xs + in_use ys
 in_use-append [] ys = omega arith
 in_use-append (e ∷ xs) ys = omega (arith, in_use-append xs ys)

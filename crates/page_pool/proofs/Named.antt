@@ -10,6 +10,7 @@ use Rattle.page_pool.specs.declared.heads.Head.{Head}
 use Rattle.page_pool.specs.declared.heads.Ends.{Ends}
 use Rattle.page_pool.proofs.Facts as facts
 
+-- an image splits the list of images where its origin splits the list
 pub record Split (g : ℕ → Live) (xs : List ℕ) (e : Live) : Type 0 where
   pub front : List ℕ
   pub c : ℕ
@@ -17,6 +18,7 @@ pub record Split (g : ℕ → Live) (xs : List ℕ) (e : Live) : Type 0 where
   pub is : xs ≡ front ++ c ∷ back
   pub named : g c ≡ e
 
+-- a split of the images comes from a split of the list
 pub map_split : (g : ℕ → Live) (xs : List ℕ) (b : List Live) (e : Live) (a : List Live) → map g xs ≡ b ++ e ∷ a → Split g xs e
 map_split g [] [] e a h = absurd (cc)
 map_split g [] (d ∷ b) e a h = absurd (cc)
@@ -26,6 +28,7 @@ map_split g (x ∷ xs) (d ∷ b) e a h =
     let s = map_split g xs b e a t in
     record { front = x ∷ s.front; c = s.c; back = s.back; is = ap (λ l. x ∷ l) s.is; named = s.named }
 
+-- how long a text is
 pub length-text : (bytes cells : List ℕ) (n : ℕ) → length (text bytes cells n) ≡ n
 length-text bytes cells n = length-map-range_with_len (byte_at bytes cells) 0 n
 

@@ -10,17 +10,20 @@ use Rattle.page_pool.specs.Layout.{NONE, head, link_of, ends, IsRegion}
 use Rattle.page_pool.specs.declared.heads.Head.{Head}
 use Rattle.page_pool.specs.declared.heads.Ends.{Ends}
 
+-- cells that are linked each to the next are a chain
 pub chain_range : (f : ℕ → ℕ) (a n e : ℕ) → ((k : ℕ) → a ≤ k → k + 1 < a + n → f k ≡ k + 1) → ((k : ℕ) → k + 1 ≡ a + n → a ≤ k → f k ≡ e) → Chain f (range_with_len a n) e
 chain_range f a zero e next last = tt
 chain_range f a (suc zero) e next last = (last a (omega arith) (omega arith), tt)
 chain_range f a (suc (suc n)) e next last =
     (next a (omega arith) (omega arith), chain_range f (a + 1) (suc n) e (λ k l h. next k (omega (arith, l)) (omega (arith, h))) (λ k h l. last k (omega (arith, h)) (omega (arith, l))))
 
+-- no smaller number stands in a range
 times-low : (x a n : ℕ) → x < a → times x (range_with_len a n) ≡ 0
 times-low x a zero h = refl
 times-low x a (suc n) h = let r = times-low x (a + 1) n (omega (arith, h)) in
     elim (eqb_tells x a) [ inl e ↦ absurd (omega (arith, e.1, h)) | inr e ↦ ap (λ b. cond b 1 0 + times x (range_with_len (a + 1) n)) e.0 ∙ omega (arith, r) ]
 
+-- each number of a range stands in it once
 pub times-range : (x a n : ℕ) → a ≤ x → x < a + n → times x (range_with_len a n) ≡ 1
 times-range x a zero l h = absurd (omega (arith, l, h))
 times-range x a (suc n) l h =
@@ -29,25 +32,30 @@ times-range x a (suc n) l h =
       | inr e ↦ let r = times-range x (a + 1) n (omega (arith, e.1, l)) (omega (arith, h)) in ap (λ b. cond b 1 0 + times x (range_with_len (a + 1) n)) e.0 ∙ omega (arith, r)
     ]
 
+-- no larger number stands in a range
 pub times-beyond : (x a n : ℕ) → a + n ≤ x → times x (range_with_len a n) ≡ 0
 times-beyond x a zero h = refl
 times-beyond x a (suc n) h = let r = times-beyond x (a + 1) n (omega (arith, h)) in
     elim (eqb_tells x a) [ inl e ↦ absurd (omega (arith, e.1, h)) | inr e ↦ ap (λ b. cond b 1 0 + times x (range_with_len (a + 1) n)) e.0 ∙ omega (arith, r) ]
 
+-- each head of a new pool
 head-replicate : (n : ℕ) (h : Head) (c : ℕ) → c < n → head (replicate n h) c ≡ h
 head-replicate zero h c l = absurd (omega (arith, l))
 head-replicate (suc n) h zero l = refl
 head-replicate (suc n) h (suc c) l = head-replicate n h c (omega (arith, l))
 
+-- the ends of each frame of a new pool
 ends-replicate : (n : ℕ) (e : Ends) (f : ℕ) → f < n → ends (replicate n e) f ≡ e
 ends-replicate zero e f l = absurd (omega (arith, l))
 ends-replicate (suc n) e zero l = refl
 ends-replicate (suc n) e (suc f) l = ends-replicate n e f (omega (arith, l))
 
+-- the first of a range
 first_range : (n e : ℕ) → 0 < n → 0 ≡ first_or (range_with_len 0 n) e
 first_range zero e h = absurd (omega (arith, h))
 first_range (suc n) e h = refl
 
+-- a new pool
 pub empty : (bytes links : List ℕ) (hs : List Head) (h : Head) (n : ℕ) → 0 < n → n ≤ 65536 → hs ≡ replicate n h → is_some h.address ≡ false → length hs ≡ n → length links ≡ n → length bytes ≡ 32 * n
     → ((k : ℕ) → k + 1 < length links → link_of links k ≡ k + 1) → ((k : ℕ) → k + 1 ≡ length links → link_of links k ≡ NONE)
     → IsRegion bytes links hs 0 n NONE NONE 0 (replicate 8 (record { first = NONE; last = NONE }))

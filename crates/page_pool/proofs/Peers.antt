@@ -9,6 +9,7 @@ use Rattle.page_pool.specs.Layout.{NONE, Linked}
 use Rattle.page_pool.proofs.Chains.{times-append, times-self, times-one, times-reverse, apart, last_is, chain_same, chain_rest, unlink, link_end}
 
 module _ (n b n' b' : ℕ → ℕ) where
+  -- a chain stays where none of its cells was written
   pub stays : (xs : List ℕ) (first last : ℕ) → ((c : ℕ) → 0 < times c xs → n' c ≡ n c) → ((c : ℕ) → 0 < times c xs → b' c ≡ b c) → Linked n b xs first last → Linked n' b' xs first last
   stays xs first last sn sb l = record {
     onward = chain_same n n' xs NONE sn l.onward;
@@ -28,27 +29,35 @@ ends_without t (x ∷ xs) ys first next e n ne = elim (first == t) as (λ v. (fi
 
 module _ (n b n' b' : ℕ → ℕ) (xs : List ℕ) (t : ℕ) (ys : List ℕ) (first last : ℕ) (l : Linked n b (xs ++ t ∷ ys) first last)
     (one : (c : ℕ) → times c (xs ++ t ∷ ys) ≤ 1) (none : times NONE (xs ++ t ∷ ys) ≡ 0) where
+  -- the list turned round
   turned : reverse (xs ++ t ∷ ys) ≡ reverse ys ++ t ∷ reverse xs
   turned = reverse-append xs (t ∷ ys) ∙ ap (λ z. z ++ reverse xs) (reverse-cons t ys) ∙ append_assoc (reverse ys) (t ∷ []) (reverse xs)
 
+  -- the chain back, from the last on
   backward : Chain b (reverse ys ++ t ∷ reverse xs) NONE
   backward = subst (λ z. Chain b z NONE) turned l.backward
 
+  -- the cell before t
   pub before_is : b t ≡ first_or (reverse xs) NONE
   before_is = (chain_rest b (reverse ys) (t ∷ reverse xs) NONE backward).0
 
+  -- the cell after t
   pub after_is : n t ≡ first_or ys NONE
   after_is = (chain_rest n xs (t ∷ ys) NONE l.onward).0
 
+  -- how often a cell stands in the list with t
   count : (c : ℕ) → times c (xs ++ t ∷ ys) ≡ times c (xs ++ ys) + times c (t ∷ [])
   count c = times-append c xs (t ∷ ys) ∙ omega (arith, times-append c xs ys)
 
+  -- how often a cell stands in the list turned round
   other_way : (c : ℕ) → times c (reverse ys ++ reverse xs) ≡ times c (xs ++ ys)
   other_way c = ap (times c) (sym (reverse-append xs ys)) ∙ times-reverse c (xs ++ ys)
 
+  -- the last of the turned list
   back_is : first_or (reverse (reverse ys)) NONE ≡ n t
   back_is = ap (λ z. first_or z NONE) (reverse-reverse ys) ∙ sym after_is
 
+  -- t leaves the chain
   pub leaves : ((c : ℕ) → 0 < times c (xs ++ ys) → c ≢ b t → n' c ≡ n c) → (0 < times (b t) (xs ++ ys) → n' (b t) ≡ n t)
       → ((c : ℕ) → 0 < times c (xs ++ ys) → c ≢ n t → b' c ≡ b c) → (0 < times (n t) (xs ++ ys) → b' (n t) ≡ b t)
       → Linked n' b' (xs ++ ys) (cond (first == t) (n t) first) (cond (last == t) (b t) last)
@@ -74,6 +83,7 @@ starts t first (x ∷ xs) e ne = elim (first == NONE) as (λ v. (first == NONE) 
   | false ↦ λ q. e
 ] refl
 
+-- t joins the chain at its end
 pub joins : (n b n' b' : ℕ → ℕ) (xs : List ℕ) (t first last : ℕ) → Linked n b xs first last → ((c : ℕ) → times c xs ≤ 1) → times NONE xs ≡ 0
     → ((c : ℕ) → 0 < times c xs → c ≢ last → n' c ≡ n c) → (0 < times last xs → n' last ≡ t) → n' t ≡ NONE
     → ((c : ℕ) → 0 < times c xs → b' c ≡ b c) → b' t ≡ last
@@ -87,10 +97,12 @@ joins n b n' b' xs t first last l one none sn an en sb ab = record {
   last_is = sym (last_is xs t NONE);
 }
 
+-- what passes stands no more often among those that pass
 pub times-filter : (p : ℕ → Bool) (c : ℕ) (xs : List ℕ) → times c (filter p xs) ≤ times c xs
 times-filter p c [] = omega arith
 times-filter p c (x ∷ xs) = let r = times-filter p c xs in elim (p x) as (λ v. times c (cond v (x ∷ filter p xs) (filter p xs)) ≤ times c (x ∷ xs)) [ true ↦ omega (arith, r) | false ↦ omega (arith, r) ]
 
+-- what stands among those that pass passes
 pub filter-pass : (p : ℕ → Bool) (c : ℕ) (xs : List ℕ) → 0 < times c (filter p xs) → p c ≡ true
 filter-pass p c [] k = absurd (omega (arith, k))
 filter-pass p c (x ∷ xs) k = elim (p x) as (λ v. p x ≡ v → 0 < times c (cond v (x ∷ filter p xs) (filter p xs)) → p c ≡ true) [
@@ -101,6 +113,7 @@ filter-pass p c (x ∷ xs) k = elim (p x) as (λ v. p x ≡ v → 0 < times c (c
   | false ↦ λ e h. filter-pass p c xs h
 ] refl k
 
+-- those that pass stay where the test stays
 pub filter-same : (p q : ℕ → Bool) (xs : List ℕ) → ((c : ℕ) → 0 < times c xs → q c ≡ p c) → filter q xs ≡ filter p xs
 filter-same p q [] h = refl
 filter-same p q (x ∷ xs) h =
@@ -113,5 +126,6 @@ pub first_in : (xs : List ℕ) (e : ℕ) → (first_or xs e ≡ e) ⊎ (0 < time
 first_in [] e = inl refl
 first_in (x ∷ xs) e = inr (times-self x xs)
 
+-- different numbers compare as different
 pub not_eqb : (a b : ℕ) → (a ≡ b → ⊥) → (a == b) ≡ false
 not_eqb a b ne = elim (a == b) as (λ v. (a == b) ≡ v → v ≡ false) [ true ↦ λ e. absurd (ne (eqb-true a b e)) | false ↦ λ e. refl ] refl

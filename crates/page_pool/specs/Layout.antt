@@ -36,15 +36,19 @@ function_in (Some a) = a.function
 abbrev pub head : List Head → ℕ → Head
 head hs c = get_or hs c blank
 
+-- the page that was put before the page at c
 abbrev pub before_of : List Head → ℕ → ℕ
 before_of hs c = (head hs c).before
 
+-- the page that was put after it
 abbrev pub after_of : List Head → ℕ → ℕ
 after_of hs c = (head hs c).after
 
+-- the page of its frame that was put before it
 abbrev pub peer_before : List Head → ℕ → ℕ
 peer_before hs c = (head hs c).peer_before
 
+-- the page of its frame that was put after it
 abbrev pub peer_after : List Head → ℕ → ℕ
 peer_after hs c = (head hs c).peer_after
 
@@ -56,6 +60,7 @@ of_frame hs f c = frame_of (capcode_in (head hs c).address) == f
 abbrev pub ends : List Ends → ℕ → Ends
 ends frames f = get_or frames f (record { first = 0; last = 0 })
 
+-- the cell that a cell is linked to
 abbrev pub link_of : List ℕ → ℕ → ℕ
 link_of links c = get_or links c 0
 
@@ -67,12 +72,15 @@ places links hs c = walk (link_of links) (cells_for (head hs c).length) c
 abbrev pub byte_at : List ℕ → List ℕ → ℕ → ℕ
 byte_at bytes cells i = get_or bytes (32 * get_or cells (i / 32) 0 + i % 32) 0
 
+-- so many characters of a text that lies in these cells
 abbrev pub text : List ℕ → List ℕ → ℕ → List ℕ
 text bytes cells n = map (byte_at bytes cells) (range_with_len 0 n)
 
+-- the page whose head stands at c
 abbrev pub page_at : List ℕ → List ℕ → List Head → ℕ → Page
 page_at bytes links hs c = record { capcode = capcode_in (head hs c).address; function = function_in (head hs c).address; text = text bytes (places links hs c) (head hs c).length }
 
+-- the live page whose head stands at c
 abbrev pub entry : List ℕ → List ℕ → List Head → ℕ → Live
 entry bytes links hs c = record { ticket = c; page = page_at bytes links hs c; places = places links hs c }
 
@@ -80,12 +88,15 @@ entry bytes links hs c = record { ticket = c; page = page_at bytes links hs c; p
 abbrev pub with_after : List Head → ℕ → ℕ → List Head
 with_after hs c to = slice_set hs c (record (head hs c) { after = to })
 
+-- the same with another link back
 abbrev pub with_before : List Head → ℕ → ℕ → List Head
 with_before hs c to = slice_set hs c (record (head hs c) { before = to })
 
+-- the same with another link on within the frame
 abbrev pub with_peer_after : List Head → ℕ → ℕ → List Head
 with_peer_after hs c to = slice_set hs c (record (head hs c) { peer_after = to })
 
+-- the same with another link back within the frame
 abbrev pub with_peer_before : List Head → ℕ → ℕ → List Head
 with_peer_before hs c to = slice_set hs c (record (head hs c) { peer_before = to })
 
@@ -114,25 +125,36 @@ pub record Linked (after before : ℕ → ℕ) (cells : List ℕ) (first last : 
 abbrev pub used : List ℕ → List Head → List ℕ → List ℕ
 used links hs = flat_map (places links hs)
 
+-- each cell stands in exactly one chain, that of a page or the free one, and all chains end; the heads are linked in put order,
+-- and those of each frame once more
 pub record IsRegion (bytes links : List ℕ) (hs : List Head) (free spare first last count : ℕ) (frames : List Ends) : Type 0 where
+  -- the heads of the live pages, first put first, and the spare cells
   pub order : List ℕ
   pub unused : List ℕ
+  -- the heads are linked in this order both ways, and counted
   pub onward : Chain (after_of hs) order NONE
   pub backward : Chain (before_of hs) (reverse order) NONE
   pub first_is : first ≡ first_or order NONE
   pub last_is : last ≡ first_or (reverse order) NONE
   pub count_is : count ≡ length order
+  -- so are those of each frame among themselves
   pub frames_are : length frames ≡ 8
   pub peers : (f : ℕ) → f < 8 → Linked (peer_after hs) (peer_before hs) (filter (of_frame hs f) order) (ends frames f).first (ends frames f).last
+  -- the spare cells are one chain, and counted
   pub free_chain : Chain (link_of links) unused NONE
   pub free_is : free ≡ first_or unused NONE
   pub spare_is : spare ≡ length unused
+  -- the cells of each page are a chain
   pub chains : (c : ℕ) → 0 < times c order → Chain (link_of links) (places links hs c) NONE
+  -- each cell is a page's or spare, and no other number is
   pub once : (c : ℕ) → c < length hs → times c (used links hs order ++ unused) ≡ 1
   pub within : (c : ℕ) → length hs ≤ c → times c (used links hs order ++ unused) ≡ 0
   pub total : length (used links hs order ++ unused) ≡ length hs
+  -- a head has an address exactly where a live page begins
   pub live : (c : ℕ) → c < length hs → is_some (head hs c).address ≡ (cond (times c order == 0) false true)
+  -- each text fits its function
   pub fits : (c : ℕ) → 0 < times c order → FitsPage (page_at bytes links hs c)
+  -- a link and 32 bytes for each head, which are 1 to 65,536
   pub links_cells : length links ≡ length hs
   pub bytes_cells : length bytes ≡ 32 * length hs
   pub some : 0 < length hs

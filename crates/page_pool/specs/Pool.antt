@@ -33,9 +33,6 @@ in_use (e ∷ es) = cells_of e.page + in_use es
 abbrev pub cells : Pool → ℕ
 cells w = in_use w.live + w.spare
 
-abbrev pub named : ℕ → Live → Bool
-named t e = e.ticket == t
-
 -- the page is of the frame
 abbrev pub in_frame : ℕ → Live → Bool
 in_frame f e = frame_of e.page.capcode == f
@@ -47,6 +44,7 @@ pub record Names (w : Pool) (t : ℕ) (e : Live) : Type 0 where
   pub is : w.live ≡ before ++ e ∷ after
   pub ticket : e.ticket ≡ t
 
+-- the ticket names a live page
 abbrev pub IsLive : Pool → ℕ → Type 0
 IsLive w t = (e : Live) × Names w t e
 
