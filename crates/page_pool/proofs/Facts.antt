@@ -1,17 +1,16 @@
 -- What holds of every region.
-use Rattle.std.proofs.Common.{◌≡◌, ◌≢◌, ℕ, zero, suc, ◌+◌, ◌-◌, ◌*◌, ◌<◌, ◌≤◌, Bool, true, false, cond, ◌==◌, ◌⊎◌, inl, inr, List, [], ◌∷◌, ◌++◌, map, length, reverse, get_or, refl, sym, ◌∙◌, ap, subst, arith, eq-eqb}
+use Rattle.std.proofs.Common.{◌≡◌, ◌≢◌, ℕ, ◌+◌, ◌<◌, ◌≤◌, inl, inr, List, ◌∷◌, ◌++◌, length, ◌∙◌, ap, arith}
 use Rattle.std.proofs.lemmas.Bool.Decides.{leb_tells}
-use Rattle.std.proofs.lemmas.List.{get_or-set_same, get_or-set_other, length-set}
-use Rattle.std.specs.List.{flat_map}
+use Rattle.std.proofs.lemmas.List.{get_or-set_same, get_or-set_other}
 use Rattle.std.specs.Prelude.{slice_set}
 use Rattle.page_text.specs.Page.{Page}
 use Rattle.page_pool.specs.Cells.{cells_for}
-use Rattle.page_pool.specs.Chain.{first_or, Chain, walk, times, step}
+use Rattle.page_pool.specs.Chain.{walk, times}
 use Rattle.page_pool.specs.Pool.{Live}
-use Rattle.page_pool.specs.Layout.{capcode_in, function_in, NONE, head, before_of, after_of, link_of, places, text, page_at, entry, used, IsRegion}
+use Rattle.page_pool.specs.Layout.{capcode_in, function_in, NONE, head, after_of, link_of, places, text, page_at, entry, used, IsRegion}
 use Rattle.page_pool.specs.declared.heads.Head.{Head}
 use Rattle.page_pool.specs.declared.heads.Ends.{Ends}
-use Rattle.page_pool.proofs.Chains.{times-append, times-part, times-firsts, walk_is, walk_same, walk_more}
+use Rattle.page_pool.proofs.Chains.{times-append, times-part, times-firsts, walk_is, walk_same}
 use Rattle.page_pool.proofs.Writes.{Fixed, fixed}
 use Rattle.page_pool.proofs.Texts.{cells_for-suc}
 

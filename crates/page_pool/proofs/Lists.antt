@@ -1,7 +1,6 @@
 -- Lists of live pages.
-use Rattle.std.proofs.Common.{◌≡◌, ℕ, ◌+◌, List, [], ◌∷◌, ◌++◌, refl, sym, ◌∙◌, ap, arith}
-use Rattle.page_pool.specs.Cells.{cells_of}
-use Rattle.page_pool.specs.Pool.{Live, Pool, in_use, cells, Takes, Puts}
+use Rattle.std.proofs.Common.{◌≡◌, ℕ, ◌+◌, List, [], ◌∷◌, ◌++◌, ap, arith}
+use Rattle.page_pool.specs.Pool.{Live, Pool, in_use, cells, Takes}
 
 -- the cells of two lists of pages joined
 pub in_use-append : (xs ys : List Live) → in_use (xs ++ ys) ≡ in_use xs + in_use ys

@@ -1,11 +1,9 @@
 -- The page that a ticket names.
-use Rattle.std.proofs.Common.{◌≡◌, ℕ, ◌+◌, ◌≤◌, List, [], ◌∷◌, ◌++◌, map, length, refl, sym, ◌∙◌, ap, subst, arith}
+use Rattle.std.proofs.Common.{◌≡◌, ℕ, List, [], ◌∷◌, ◌++◌, map, length, refl, sym, ◌∙◌, ap}
 use Rattle.std.proofs.lemmas.List.FromFn.{length-map-range_with_len}
-use Rattle.page_text.specs.Page.{Page}
-use Rattle.page_pool.specs.Cells.{FitsPage, cells_for}
-use Rattle.page_pool.specs.Chain.{walk, times}
+use Rattle.page_pool.specs.Chain.{walk}
 use Rattle.page_pool.specs.Pool.{Live}
-use Rattle.page_pool.specs.Layout.{head, after_of, places, byte_at, text, entry, IsRegion}
+use Rattle.page_pool.specs.Layout.{after_of, byte_at, text, entry, IsRegion}
 use Rattle.page_pool.specs.declared.heads.Head.{Head}
 use Rattle.page_pool.specs.declared.heads.Ends.{Ends}
 use Rattle.page_pool.proofs.Facts as facts

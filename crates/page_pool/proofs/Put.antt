@@ -1,25 +1,24 @@
 -- A page is added.
-use Rattle.std.proofs.Common.{◌≡◌, ◌≢◌, ℕ, zero, suc, ◌+◌, ◌-◌, ◌*◌, ◌%◌, ◌<◌, ◌≤◌, Bool, true, false, cond, ◌==◌, ◌⊎◌, inl, inr, List, [], ◌∷◌, ◌++◌, map, length, reverse, get_or, take, drop, refl, sym, ◌∙◌, ap, subst, arith, eq-eqb, length-append, append_assoc}
-use Rattle.std.proofs.lemmas.Bool.{eqb-true, eqb-false}
+use Rattle.std.proofs.Common.{◌≡◌, ◌≢◌, ℕ, suc, ◌+◌, ◌-◌, ◌*◌, ◌<◌, ◌≤◌, true, false, cond, ◌==◌, inl, inr, List, [], ◌∷◌, ◌++◌, map, length, reverse, get_or, take, drop, refl, sym, ◌∙◌, ap, subst, arith, eq-eqb, length-append, append_assoc}
+use Rattle.std.proofs.lemmas.Bool.{eqb-true}
 use Rattle.std.proofs.lemmas.Bool.Decides.{leb_tells, eqb_tells}
-use Rattle.std.proofs.lemmas.List.{length-set, get_or-set_same, get_or-set_other, reverse-append, length-reverse, reverse-reverse, map-append, take-append-drop, length-take, length-drop, append-nil}
+use Rattle.std.proofs.lemmas.List.{length-set, get_or-set_same, get_or-set_other, reverse-append, map-append, take-append-drop, length-drop, append-nil}
 use Rattle.std.proofs.lemmas.Grind.{flat_map-append}
 use Rattle.std.proofs.lemmas.List.Elements.{filter-append}
 use Rattle.page_pool.proofs.Peers.{starts, stays, joins, times-filter, filter-pass, filter-same, first_in, not_eqb}
-use Rattle.std.specs.List.{flat_map, filter}
+use Rattle.std.specs.List.{filter}
 use Rattle.std.specs.Prelude.{slice_set}
 use Rattle.page_text.specs.Page.{Page}
 use Rattle.page_pool.specs.Cells.{FitsPage, cells_for}
 use Rattle.page_pool.specs.Chain.{first_or, Chain, walk, times, step}
-use Rattle.page_pool.specs.Pool.{Live}
 use Rattle.codeword.specs.Capcodes.{frame_of}
 use Rattle.std.specs.Option.{is_some}
 use Rattle.page_pool.specs.Layout.{capcode_in, function_in, NONE, head, before_of, after_of, peer_before, peer_after, of_frame, ends, Linked, link_of, places, page_at, text, entry, used, linked, IsRegion}
 use Rattle.page_pool.specs.declared.heads.Head.{Head}
 use Rattle.page_pool.specs.declared.heads.Ends.{Ends}
-use Rattle.page_pool.proofs.Chains.{times-append, times-self, times-one, times-other, times-reverse, times-part, apart, first_or-append, last_is, chain_same, chain_first, chain_rest, chain_join, chain_end, link_end, walk_is, walk_take, walk_more, length-walk, flat_map-same, map-same}
+use Rattle.page_pool.proofs.Chains.{times-append, times-self, times-one, times-other, times-reverse, apart, last_is, chain_same, chain_first, chain_rest, chain_end, link_end, walk_is, walk_take, walk_more, length-walk, flat_map-same, map-same}
 use Rattle.page_pool.proofs.Writes.{Fixed, fixed, linked-fixed_other, linked-fixed_at, linked-live_other, linked-live_at, linked-before_other, linked-before_at, linked-after_other, linked-after_last, linked-after_at, length-linked, linked-peer_before_other, linked-peer_before_at, linked-peer_after_other, linked-peer_after_last, linked-peer_after_at}
-use Rattle.page_pool.proofs.Texts.{cells_for-suc, text-same}
+use Rattle.page_pool.proofs.Texts.{text-same}
 use Rattle.page_pool.proofs.Facts as facts
 use Rattle.page_pool.proofs.Facts.{link-same, link-other, page-same, entry-same, places-same, own}
 

@@ -1,22 +1,20 @@
 -- `put`, over the fields of a pool.
-use Rattle.std.proofs.Common.{◌≡◌, ℕ, zero, suc, ◌+◌, ◌-◌, ◌*◌, ◌%◌, ◌<◌, ◌≤◌, true, cond, ◌==◌, List, [], ◌∷◌, ◌++◌, map, length, get_or, take, drop, refl, sym, ◌∙◌, ap, subst, arith, length-append}
+use Rattle.std.proofs.Common.{◌≡◌, ℕ, suc, ◌+◌, ◌-◌, ◌*◌, ◌<◌, ◌≤◌, cond, ◌==◌, List, [], ◌∷◌, ◌++◌, map, length, get_or, take, drop, refl, sym, ◌∙◌, ap, subst, arith, length-append}
 use Rattle.std.specs.Prelude.{slice_set, Some}
 use Rattle.codeword.specs.declared.functions.Function.{Function}
 use Rattle.codeword.specs.Capcodes.{frame_of}
 use Rattle.std.specs.List.{flat_map}
-use Rattle.std.proofs.lemmas.List.{take-append-drop, length-take}
-use Rattle.page_text.specs.Page.{Page}
-use Rattle.page_pool.specs.Cells.{FitsPage, cells_for, cells_of}
+use Rattle.std.proofs.lemmas.List.{take-append-drop}
+use Rattle.page_pool.specs.Cells.{FitsPage, cells_for}
 use Rattle.page_pool.specs.Chain.{walk, times, step}
-use Rattle.page_pool.specs.Pool.{Live, Pool, Puts, page}
-use Rattle.page_pool.specs.Layout.{NONE, head, ends, after_of, before_of, places, link_of, text, page_at, entry, linked, used, IsRegion}
+use Rattle.page_pool.specs.Pool.{Pool, Puts, page}
+use Rattle.page_pool.specs.Layout.{NONE, ends, after_of, places, link_of, text, entry, linked, used, IsRegion}
 use Rattle.page_pool.specs.Region.{view_of, Holds}
 use Rattle.page_pool.specs.declared.heads.Head.{Head}
 use Rattle.page_pool.specs.declared.heads.Ends.{Ends}
 use Rattle.page_pool.specs.declared.pool.Pool.TheInside.{Inside}
 use Rattle.page_pool.proofs.Chains.{times-append, times-self, times-one, walk_take, walk_more}
 use Rattle.page_pool.proofs.Texts.{cells_for-suc}
-use Rattle.page_pool.proofs.Named.{length-text}
 use Rattle.page_pool.proofs.Facts as facts
 use Rattle.page_pool.proofs.Facts.{own}
 use Rattle.page_pool.proofs.Put as put

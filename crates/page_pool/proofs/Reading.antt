@@ -1,23 +1,21 @@
 -- What the calls that read a page find.
-use Rattle.std.proofs.Common.{◌≡◌, ◌≢◌, ℕ, zero, suc, ◌+◌, ◌-◌, ◌*◌, ◌/◌, ◌%◌, ◌<◌, ◌≤◌, Bool, true, false, cond, ◌==◌, List, [], ◌∷◌, ◌++◌, map, length, get_or, refl, sym, ◌∙◌, ap, subst, arith}
+use Rattle.std.proofs.Common.{◌≡◌, ◌≢◌, ℕ, zero, suc, ◌+◌, ◌*◌, ◌/◌, ◌%◌, ◌<◌, ◌≤◌, Bool, true, false, cond, ◌==◌, List, [], ◌∷◌, ◌++◌, map, length, get_or, refl, sym, ◌∙◌, ap, subst, arith}
 use Rattle.std.specs.Prelude.{slice_index}
 use Rattle.std.specs.Option.{is_some}
-use Rattle.std.specs.List.{range_with_len, filter, find}
+use Rattle.std.specs.List.{filter, find}
 use Rattle.std.proofs.Common.{Option, None, Some, IsSome}
 use Rattle.page_pool.proofs.Peers.{times-filter}
 use Rattle.std.proofs.Math.Dec.{eqb-suc-zero}
-use Rattle.std.proofs.lemmas.Bool.{eqb-true}
 use Rattle.std.proofs.lemmas.List.{map-append}
 use Rattle.std.proofs.lemmas.List.FromFn.{get_or-map-range_with_len}
-use Rattle.page_text.specs.Page.{Page}
-use Rattle.page_pool.specs.Cells.{FitsPage, cells_for, cells_of}
+use Rattle.page_pool.specs.Cells.{cells_for, cells_of}
 use Rattle.page_pool.specs.Chain.{first_or, walk, times, step}
 use Rattle.page_pool.specs.Pool.{Live, Pool, Names, IsLive, in_frame}
-use Rattle.page_pool.specs.Layout.{NONE, head, of_frame, ends, after_of, places, link_of, byte_at, text, entry, used, IsRegion}
+use Rattle.page_pool.specs.Layout.{NONE, head, of_frame, ends, places, link_of, byte_at, text, entry}
 use Rattle.page_pool.specs.Region.{view_of, Holds}
 use Rattle.page_pool.specs.declared.heads.Head.{Head}
 use Rattle.page_pool.specs.declared.pool.Pool.TheInside.{Inside}
-use Rattle.page_pool.proofs.Chains.{times-append, times-self, splits, get_or-walk, length-walk}
+use Rattle.page_pool.proofs.Chains.{times-append, times-self, splits, get_or-walk}
 use Rattle.page_pool.proofs.Texts.{cells_for-enough, step_in, fits-short}
 use Rattle.page_pool.proofs.Named.{Split, map_split, length-text}
 use Rattle.page_pool.proofs.Facts as facts

@@ -1,16 +1,14 @@
 -- What holds in every pool.
-use Rattle.std.proofs.Common.{◌≡◌, ℕ, ◌+◌, ◌*◌, ◌/◌, ◌%◌, ◌<◌, ◌≤◌, List, [], ◌∷◌, ◌++◌, map, length, get_or, refl, sym, ◌∙◌, ap, subst, arith, length-append}
+use Rattle.std.proofs.Common.{◌≡◌, ℕ, ◌+◌, ◌*◌, ◌/◌, ◌%◌, List, [], ◌∷◌, ◌++◌, map, length, get_or, refl, sym, ◌∙◌, ap, subst, arith, length-append}
 use Rattle.std.specs.Prelude.{slice_index}
-use Rattle.std.specs.List.{flat_map}
-use Rattle.page_text.specs.Page.{Page}
 use Rattle.page_pool.specs.Cells.{FitsPage, cells_for, cells_of}
-use Rattle.page_pool.specs.Chain.{times, walk}
+use Rattle.page_pool.specs.Chain.{times}
 use Rattle.page_pool.specs.Pool.{Live, Pool, Names, in_use, cells, places_of, Lies, Sound}
-use Rattle.page_pool.specs.Layout.{head, places, link_of, text, page_at, entry, used, IsRegion}
+use Rattle.page_pool.specs.Layout.{head, places, link_of, page_at, entry, used}
 use Rattle.page_pool.specs.Region.{view_of, Holds}
 use Rattle.page_pool.specs.declared.heads.Head.{Head}
 use Rattle.page_pool.specs.declared.pool.Pool.TheInside.{Inside}
-use Rattle.page_pool.proofs.Chains.{times-append, length-walk}
+use Rattle.page_pool.proofs.Chains.{length-walk}
 use Rattle.page_pool.proofs.Named.{length-text}
 use Rattle.page_pool.proofs.Facts as facts
 use Rattle.page_pool.proofs.Reading as reading
@@ -62,4 +60,5 @@ module _ (s : Inside) (r : Holds s) (w : Pool) (v : view_of s ≡ w) where
     apart = λ x. omega (arith, ap (times x) places_are, facts.one s.bytes.items s.links.items s.heads.items s.free s.spare s.first s.last s.count s.frames r x);
     some = omega (arith, all_is, r.some);
     most = omega (arith, all_is, r.most);
+    whole = omega (arith, ap (λ p. length p.region) v, r.bytes_cells, all_is);
   }

@@ -1,15 +1,14 @@
 -- A page is taken out.
-use Rattle.std.proofs.Common.{◌≡◌, ◌≢◌, ℕ, zero, suc, ◌+◌, ◌-◌, ◌*◌, ◌%◌, ◌<◌, ◌≤◌, Bool, true, false, cond, ◌==◌, ◌⊎◌, inl, inr, List, [], ◌∷◌, ◌++◌, map, length, reverse, get_or, refl, sym, ◌∙◌, ap, subst, arith, eq-eqb, length-append, append_assoc}
-use Rattle.std.proofs.lemmas.Bool.{eqb-true, eqb-false}
+use Rattle.std.proofs.Common.{◌≡◌, ◌≢◌, ℕ, suc, ◌+◌, ◌-◌, ◌<◌, ◌≤◌, true, false, cond, ◌==◌, inl, inr, List, [], ◌∷◌, ◌++◌, map, length, reverse, refl, sym, ◌∙◌, ap, subst, arith, eq-eqb, length-append, append_assoc}
+use Rattle.std.proofs.lemmas.Bool.{eqb-true}
 use Rattle.std.proofs.lemmas.Bool.Decides.{leb_tells, eqb_tells}
-use Rattle.std.proofs.lemmas.List.{length-set, get_or-set_same, get_or-set_other, reverse-append, length-reverse, reverse-reverse, map-append}
+use Rattle.std.proofs.lemmas.List.{length-set, get_or-set_same, get_or-set_other, reverse-append, reverse-reverse, map-append}
 use Rattle.std.proofs.lemmas.Grind.{flat_map-append}
 use Rattle.std.proofs.lemmas.List.Elements.{filter-append}
 use Rattle.page_pool.proofs.Peers.{ends_without, stays, leaves, before_is as before_is', after_is as after_is'', times-filter, filter-pass, filter-same, first_in, not_eqb}
-use Rattle.std.specs.List.{flat_map, filter}
+use Rattle.std.specs.List.{filter}
 use Rattle.std.specs.Prelude.{slice_set}
 use mathlib.Core.List.{reverse-cons}
-use Rattle.page_text.specs.Page.{Page}
 use Rattle.page_pool.specs.Cells.{FitsPage, cells_for}
 use Rattle.page_pool.specs.Chain.{first_or, Chain, walk, times, step}
 use Rattle.codeword.specs.Capcodes.{frame_of}
@@ -17,9 +16,8 @@ use Rattle.std.specs.Option.{is_some}
 use Rattle.page_pool.specs.Layout.{capcode_in, NONE, head, before_of, after_of, peer_before, peer_after, of_frame, ends, Linked, link_of, places, page_at, entry, used, unlinked, IsRegion}
 use Rattle.page_pool.specs.declared.heads.Head.{Head}
 use Rattle.page_pool.specs.declared.heads.Ends.{Ends}
-use Rattle.page_pool.proofs.Chains.{times-append, times-self, times-one, times-other, times-reverse, times-part, apart, first_or-append, chain_same, chain_first, chain_rest, chain_join, chain_end, unlink, splits, walk_is, walk_more, length-walk, flat_map-same, map-same}
-use Rattle.page_pool.proofs.Writes.{Fixed, fixed, unlinked-fixed, unlinked-peer_after_other, unlinked-peer_after_at, unlinked-peer_before_other, unlinked-peer_before_at, unlinked-after_other, unlinked-after_at, unlinked-before_other, unlinked-before_at, length-unlinked, unlinked-live_other, unlinked-live_at}
-use Rattle.page_pool.proofs.Texts.{cells_for-suc}
+use Rattle.page_pool.proofs.Chains.{times-append, times-one, times-other, times-reverse, times-part, apart, chain_same, chain_rest, chain_join, chain_end, unlink, walk_is, walk_more, length-walk, flat_map-same, map-same}
+use Rattle.page_pool.proofs.Writes.{Fixed, unlinked-fixed, unlinked-peer_after_other, unlinked-peer_after_at, unlinked-peer_before_other, unlinked-peer_before_at, unlinked-after_other, unlinked-after_at, unlinked-before_other, unlinked-before_at, length-unlinked, unlinked-live_other, unlinked-live_at}
 use Rattle.page_pool.proofs.Facts as facts
 use Rattle.page_pool.proofs.Facts.{link-same, link-other, page-same, entry-same, places-same, own}
 

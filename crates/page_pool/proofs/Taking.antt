@@ -1,11 +1,10 @@
 -- `take`, over the fields of a pool.
-use Rattle.std.proofs.Common.{◌≡◌, ℕ, zero, suc, ◌+◌, ◌-◌, ◌%◌, ◌<◌, ◌≤◌, cond, ◌==◌, List, [], ◌∷◌, ◌++◌, map, length, get_or, refl, sym, ◌∙◌, ap, subst, arith}
+use Rattle.std.proofs.Common.{◌≡◌, ℕ, zero, suc, ◌+◌, ◌-◌, ◌<◌, ◌≤◌, cond, ◌==◌, List, [], ◌∷◌, ◌++◌, map, length, get_or, refl, sym, ◌∙◌, ap, subst, arith}
 use Rattle.std.specs.Prelude.{slice_set}
-use Rattle.page_text.specs.Page.{Page}
 use Rattle.page_pool.specs.Cells.{FitsPage, cells_for, cells_of}
 use Rattle.page_pool.specs.Chain.{walk, times, step}
-use Rattle.page_pool.specs.Pool.{Live, Pool, Names, IsLive, Takes}
-use Rattle.page_pool.specs.Layout.{head, ends, after_of, before_of, places, link_of, text, page_at, entry, unlinked, IsRegion}
+use Rattle.page_pool.specs.Pool.{Pool, IsLive, Takes}
+use Rattle.page_pool.specs.Layout.{head, ends, after_of, places, link_of, page_at, entry, unlinked, IsRegion}
 use Rattle.page_pool.specs.Region.{view_of, Holds}
 use Rattle.page_pool.specs.declared.heads.Head.{Head}
 use Rattle.page_pool.specs.declared.heads.Ends.{Ends}

@@ -1,10 +1,9 @@
 -- What writes to heads leave.
-use Rattle.std.proofs.Common.{◌≡◌, ◌≢◌, ℕ, zero, suc, ◌+◌, ◌<◌, ◌≤◌, Bool, true, false, cond, ◌==◌, ◌⊎◌, inl, inr, List, [], ◌∷◌, ◌++◌, map, length, get_or, refl, sym, ◌∙◌, ap, subst, arith, eq-eqb}
-use Rattle.std.proofs.lemmas.Bool.{eqb-true, eqb-false}
+use Rattle.std.proofs.Common.{◌≡◌, ◌≢◌, ℕ, zero, suc, ◌<◌, false, List, [], ◌∷◌, length, refl, sym, ◌∙◌, ap, subst}
 use Rattle.std.proofs.lemmas.List.{get_or-set_same, get_or-set_other, length-set}
 use Rattle.std.specs.Prelude.{slice_set}
-use Rattle.page_pool.specs.Layout.{blank, head, before_of, after_of, peer_before, peer_after, with_after, with_before, with_peer_after, with_peer_before, retired, unlinked, linked}
-use Rattle.std.proofs.Common.{Option, None, Some}
+use Rattle.page_pool.specs.Layout.{blank, head, before_of, after_of, peer_before, peer_after, unlinked, linked}
+use Rattle.std.proofs.Common.{Option}
 use Rattle.std.specs.Option.{is_some}
 use Rattle.page_pool.specs.declared.heads.Address.{Address}
 use Rattle.page_pool.specs.declared.heads.Head.{Head}

@@ -1,5 +1,5 @@
 -- How many cells a page takes.
-use Rattle.std.specs.Prelude.{ℕ, ◌+◌, ◌/◌, max, List, length}
+use Rattle.std.specs.Prelude.{ℕ, ◌+◌, ◌/◌, max, length}
 use Rattle.page_text.specs.Fits.{Fits}
 use Rattle.page_text.specs.Page.{Page}
 

@@ -1,6 +1,6 @@
 -- What a contract sees of a pool.
-use Rattle.std.specs.Prelude.{◌≡◌, ℕ, ◌+◌, ◌*◌, ◌/◌, ◌%◌, ◌<◌, ◌≤◌, Bool, true, ◌==◌, List, [], ◌∷◌, ◌++◌, map, length, Option, IsSome, slice_index, refl}
-use Rattle.std.specs.List.{All, IsDistinct, filter, find, concat}
+use Rattle.std.specs.Prelude.{◌≡◌, ℕ, ◌+◌, ◌*◌, ◌/◌, ◌%◌, ◌<◌, ◌≤◌, Bool, true, ◌==◌, List, [], ◌∷◌, ◌++◌, map, length, slice_index}
+use Rattle.std.specs.List.{filter}
 use Rattle.page_pool.specs.Chain.{times}
 use Rattle.codeword.specs.declared.functions.Function.{Function}
 use Rattle.codeword.specs.Capcodes.{frame_of}
@@ -83,12 +83,17 @@ pub record Lies (w : Pool) (e : Live) : Type 0 where
 
 -- what holds in every pool
 pub record Sound (w : Pool) : Type 0 where
+  -- no two live pages have one ticket
   pub tickets : (t : ℕ) → times t (map (λ (e : Live). e.ticket) w.live) ≤ 1
+  -- each live page lies in its cells
   pub pages : (t : ℕ) (e : Live) → Names w t e → Lies w e
+  -- the places of all live pages are below the cells of the making, and all differ
   pub below : (x : ℕ) → 0 < times x (places_of w.live) → x < cells w
   pub apart : (x : ℕ) → times x (places_of w.live) ≤ 1
+  -- the cells of the making are 1 to 65,536, and the region has 32 bytes for each
   pub some : 0 < cells w
   pub most : cells w ≤ 65536
+  pub whole : length w.region ≡ 32 * cells w
 
 -- the first page of the frame was taken out, e
 pub record TakesFirst (old new : Pool) (f : ℕ) (e : Live) : Type 0 where

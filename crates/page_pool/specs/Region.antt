@@ -1,7 +1,7 @@
 -- What the fields of a pool stand for, and what holds of them. No public clause cites this module.
 use Rattle.std.specs.Prelude.{map}
 use Rattle.page_pool.specs.Chain.{walk}
-use Rattle.page_pool.specs.Pool.{Live, Pool}
+use Rattle.page_pool.specs.Pool.{Pool}
 use Rattle.page_pool.specs.Layout.{after_of, entry, IsRegion}
 use Rattle.page_pool.specs.declared.pool.Pool.TheInside.{Inside}
 

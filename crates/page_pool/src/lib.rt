@@ -2,9 +2,9 @@
 //! docs/profile.md.
 //!
 //! A page lies in a chain of cells. Its head stands at the first of them, and its ticket is the number of this cell. All spare cells
-//! are one chain. The heads are linked in the order in which the pages were put, and once more among the pages of their frame, both
-//! ways. So the first page of a frame is read from one number, and a page leaves by as many links as it has neighbours. All memory is
-//! taken by `Pool::new`. No later call takes any, and no character is moved once it was put.
+//! are one chain. The heads are linked both ways in the order in which the pages were put, and once more among the pages of their
+//! frame. So `Pool::first` reads one number, and a page is linked in or out by a fixed number of writes. All memory is taken by
+//! `Pool::new`. No later call takes any, and no character is moved once it was put.
 //!
 //! - `pool`: the pool and its calls.
 //! - `cells`: cells, their links, and texts along them.

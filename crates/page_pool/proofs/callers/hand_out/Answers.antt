@@ -1,4 +1,3 @@
-use Rattle.std.proofs.Common.{◌≡◌}
 use Rattle.page_pool.proofs.Laws.{first_live, first_taken}
 use Rattle.page_pool.proofs.callers.hand_out.Goals as goal
 

@@ -1,5 +1,4 @@
-use Rattle.std.proofs.Common.{◌≡◌, ℕ, ◌+◌, ◌<◌, ◌∙◌, ap, sym, subst, add-one, arith, length, get_or, suc}
-use Rattle.page_pool.specs.Chain.{step, walk, times}
+use Rattle.std.proofs.Common.{◌+◌, ◌<◌, sym, add-one, arith}
 use Rattle.page_pool.specs.Layout.{link_of}
 use Rattle.page_pool.proofs.Chains.{step_more}
 use Rattle.page_pool.proofs.Texts.{step_in}

@@ -1,8 +1,8 @@
-use Rattle.std.proofs.Common.{◌≡◌, ℕ, ◌+◌, ◌-◌, ◌*◌, ◌/◌, ◌%◌, ◌<◌, ◌≤◌, ◌∙◌, ap, sym, subst, add-one, arith, length, get_or, suc, refl}
+use Rattle.std.proofs.Common.{◌≡◌, ◌+◌, ◌-◌, ◌*◌, ◌/◌, ◌%◌, ◌<◌, ◌∙◌, ap, sym, subst, arith, length, get_or, refl}
 use Rattle.page_pool.specs.Cells.{cells_for}
-use Rattle.page_pool.specs.Chain.{step, walk, times}
+use Rattle.page_pool.specs.Chain.{step, walk}
 use Rattle.page_pool.specs.Layout.{link_of}
-use Rattle.page_pool.proofs.Chains.{step_more, get_or-walk, length-walk}
+use Rattle.page_pool.proofs.Chains.{get_or-walk, length-walk}
 use Rattle.page_pool.proofs.Texts.{step_in, cells_for-enough, written_more, others_more, text_is, cell_next, cell_stays, cell_starts}
 use Rattle.page_pool.proofs.cells.write_text.Goals as goal
 use Rattle.page_pool.proofs.cells.write_text.Goals.{then-i-gt0+then-i-eq0, else-i-gt0, else-i-gt0-via-then-i-gt0+else-i-eq0, else-i-gt0-via-else-i-gt0}

@@ -1,4 +1,4 @@
-use Rattle.std.proofs.Common.{◌≡◌, ◌<◌, ◌∙◌, ap, sym, subst, arith, IsSome}
+use Rattle.std.proofs.Common.{◌∙◌, ap, sym, subst, arith, IsSome}
 use Rattle.page_pool.specs.Layout.{capcode_in, function_in}
 use Rattle.page_pool.specs.declared.heads.Head.{Head}
 use Rattle.page_pool.proofs.Reading as reading

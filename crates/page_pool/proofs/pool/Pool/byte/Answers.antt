@@ -1,8 +1,6 @@
-use Rattle.std.proofs.Common.{◌≡◌, ℕ, ◌+◌, ◌*◌, ◌/◌, ◌%◌, ◌<◌, ◌≤◌, ◌∙◌, ap, sym, subst, arith, length, get_or, refl, rules}
-use Rattle.page_pool.specs.Layout.{head, link_of}
+use Rattle.std.proofs.Common.{◌≡◌, ◌+◌, ◌*◌, ◌/◌, ◌%◌, ◌∙◌, ap, sym, arith, length, get_or, refl}
 use Rattle.std.proofs.lemmas.List.{get_or_read}
 use Rattle.page_pool.proofs.Reading as reading
-use Rattle.page_pool.proofs.Taking.{read_head}
 use Rattle.page_pool.proofs.pool.Pool.byte.Goals as goal
 
 pub overflow_cast-i : goal.overflow_cast-i

@@ -1,4 +1,4 @@
-use Rattle.std.proofs.Common.{◌≡◌, ◌<◌, ◌∙◌, ap, sym, arith, length}
+use Rattle.std.proofs.Common.{◌∙◌, ap, sym, arith}
 use Rattle.page_pool.specs.declared.heads.Head.{Head}
 use Rattle.page_pool.proofs.Reading as reading
 use Rattle.page_pool.proofs.Taking.{read_head}

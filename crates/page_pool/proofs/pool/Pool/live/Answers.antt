@@ -1,5 +1,4 @@
-use Rattle.std.proofs.Common.{◌≡◌, ℕ, ◌+◌, ◌*◌, ◌/◌, ◌%◌, ◌<◌, ◌≤◌, ◌∙◌, ap, sym, subst, arith, length, get_or, refl, rules, Bool, true, false, IsTrue}
-use Rattle.page_pool.specs.Layout.{head, link_of}
+use Rattle.std.proofs.Common.{◌≡◌, ◌<◌, ◌∙◌, ap, sym, subst, arith, length, Bool, true, IsTrue}
 use Rattle.page_pool.specs.Pool.{IsLive}
 use Rattle.page_pool.proofs.Reading as reading
 use Rattle.page_pool.proofs.Taking.{read_head}

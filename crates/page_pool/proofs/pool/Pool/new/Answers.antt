@@ -1,6 +1,5 @@
-use Rattle.std.proofs.Common.{◌≡◌, ℕ, ◌<◌, ◌∙◌, ap, sym, subst, arith, length, refl}
+use Rattle.std.proofs.Common.{arith, refl}
 use Rattle.std.proofs.lemmas.List.{with_items_is}
-use Rattle.page_pool.specs.Layout.{NONE, link_of}
 use Rattle.page_pool.proofs.New as new
 use Rattle.page_pool.proofs.pool.Pool.new.Goals as goal
 

@@ -1,7 +1,5 @@
-use Rattle.std.proofs.Common.{◌≡◌, ℕ, ◌+◌, ◌*◌, ◌/◌, ◌%◌, ◌<◌, ◌≤◌, ◌∙◌, ap, sym, subst, arith, length, get_or, refl, rules}
-use Rattle.page_pool.specs.Layout.{head, link_of}
+use Rattle.std.proofs.Common.{arith}
 use Rattle.page_pool.proofs.Reading as reading
-use Rattle.page_pool.proofs.Taking.{read_head}
 use Rattle.page_pool.proofs.pool.Pool.oldest.Goals as goal
 
 pub returns-else-self-eq0 : goal.returns-else-self-eq0

@@ -1,8 +1,5 @@
-use Rattle.std.proofs.Common.{◌≡◌, ℕ, ◌+◌, ◌*◌, ◌/◌, ◌%◌, ◌<◌, ◌≤◌, ◌∙◌, ap, sym, subst, arith, length, get_or, refl, rules}
-use Rattle.page_pool.specs.Layout.{head, link_of}
+use Rattle.std.proofs.Common.{◌∙◌, arith, refl}
 use Rattle.page_pool.proofs.Reading as reading
-use Rattle.page_pool.proofs.Taking.{read_head}
-use Rattle.page_pool.specs.Cells.{cells_for}
 use Rattle.page_pool.proofs.pool.Pool.place.Goals as goal
 
 pub overflow_cast-k : goal.overflow_cast-k

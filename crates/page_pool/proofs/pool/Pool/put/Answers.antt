@@ -1,8 +1,7 @@
-use Rattle.std.proofs.Common.{◌≡◌, ℕ, ◌%◌, ◌<◌, ◌≤◌, ◌∙◌, ap, sym, subst, arith, length, refl, true}
-use Rattle.std.proofs.lemmas.List.{with_items_is, length-set}
+use Rattle.std.proofs.Common.{◌∙◌, ap, arith, length}
+use Rattle.std.proofs.lemmas.List.{with_items_is}
 use Rattle.std.specs.Prelude.{slice_set, Some}
-use Rattle.page_pool.specs.Cells.{cells_for}
-use Rattle.page_pool.specs.Layout.{NONE, head, ends, link_of, linked}
+use Rattle.page_pool.specs.Layout.{NONE, ends, linked}
 use Rattle.page_pool.proofs.Putting as putting
 use Rattle.page_pool.proofs.pool.Pool.put.Goals as goal
 

@@ -1,11 +1,10 @@
-use Rattle.std.proofs.Common.{◌≡◌, ℕ, ◌<◌, ◌≤◌, ◌∙◌, ap, sym, subst, arith, length, refl}
-use Rattle.std.proofs.lemmas.List.{with_items_is, length-set}
+use Rattle.std.proofs.Common.{◌≡◌, ◌≤◌, ◌∙◌, ap, sym, subst, arith, length}
+use Rattle.std.proofs.lemmas.List.{with_items_is}
 use Rattle.std.specs.Prelude.{slice_set}
 use Rattle.page_pool.specs.Cells.{cells_for}
-use Rattle.page_pool.specs.Layout.{head, link_of, unlinked}
+use Rattle.page_pool.specs.Layout.{head, unlinked}
 use Rattle.page_pool.proofs.Taking as taking
 use Rattle.page_pool.proofs.Taking.{read_head}
-use Rattle.page_pool.proofs.Writes.{length-unlinked}
 use Rattle.page_pool.proofs.pool.Pool.take.Goals as goal
 
 pub index-head-requires : goal.index-head-requires
