@@ -1,0 +1,15 @@
+pub mod Chains
+pub mod Writes
+pub mod Texts
+pub mod Facts
+pub mod Take
+pub mod Put
+pub mod Named
+pub mod Taking
+pub mod Putting
+pub mod Reading
+pub mod New
+pub mod Lists
+pub mod Sounds
+pub mod Peers
+pub mod Laws

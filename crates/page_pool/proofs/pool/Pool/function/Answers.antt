@@ -1,0 +1,4 @@
+use Rattle.page_pool.proofs.pool.Pool.function.Goals as goal
+
+pub returns : goal.returns
+returns c e n = (c.address-address.ensures e n).1

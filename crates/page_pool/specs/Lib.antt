@@ -1,0 +1,5 @@
+pub mod Cells
+pub mod Chain
+pub mod Layout
+pub mod Pool
+pub mod Region
