@@ -64,9 +64,17 @@ ends frames f = get_or frames f (record { first = 0; last = 0 })
 abbrev pub link_of : List ℕ → ℕ → ℕ
 link_of links c = get_or links c 0
 
+-- the cells from one on that a text of so many characters takes
+abbrev pub cells_from : List ℕ → ℕ → ℕ → List ℕ
+cells_from links c n = walk (link_of links) (cells_for n) c
+
+-- the bytes of all other cells are as they were
+abbrev pub KeepsOthers : List ℕ → List ℕ → List ℕ → Type 0
+KeepsOthers old new cells = (k : ℕ) → times k cells ≡ 0 → (j : ℕ) → j < 32 → get_or new (32 * k + j) 0 ≡ get_or old (32 * k + j) 0
+
 -- the cells of the page whose head stands at c
 abbrev pub places : List ℕ → List Head → ℕ → List ℕ
-places links hs c = walk (link_of links) (cells_for (head hs c).length) c
+places links hs c = cells_from links c (head hs c).length
 
 -- byte i of a text that lies in these cells
 abbrev pub byte_at : List ℕ → List ℕ → ℕ → ℕ
@@ -108,7 +116,12 @@ retired hs c = slice_set hs c (record (head hs c) { address = None })
 abbrev pub unlinked : List Head → ℕ → List Head
 unlinked hs t =
     retired
-    (with_peer_before (with_peer_after (with_before (with_after hs (head hs t).before (head hs t).after) (head hs t).after (head hs t).before) (head hs t).peer_before (head hs t).peer_after) (head hs t).peer_after (head hs t).peer_before) t
+    (with_peer_before
+    (with_peer_after
+    (with_before (with_after hs (head hs t).before (head hs t).after) (head hs t).after (head hs t).before)
+    (head hs t).peer_before (head hs t).peer_after)
+    (head hs t).peer_after (head hs t).peer_before)
+    t
 
 -- the heads with a page of this head at c behind the last page, and behind the last of its frame
 abbrev pub linked : List Head → ℕ → Head → List Head

@@ -1,7 +1,7 @@
 -- What a contract sees of a pool.
 use Rattle.std.specs.Prelude.{◌≡◌, ℕ, ◌+◌, ◌*◌, ◌/◌, ◌%◌, ◌<◌, ◌≤◌, Bool, true, ◌==◌, List, [], ◌∷◌, ◌++◌, map, length, slice_index}
 use Rattle.std.specs.List.{filter}
-use Rattle.page_pool.specs.Chain.{times}
+use Rattle.page_pool.specs.Chain.{AreBelow, AreDistinct}
 use Rattle.codeword.specs.declared.functions.Function.{Function}
 use Rattle.codeword.specs.Capcodes.{frame_of}
 use Rattle.page_text.specs.Fits.{Fits}
@@ -84,12 +84,12 @@ pub record Lies (w : Pool) (e : Live) : Type 0 where
 -- what holds in every pool
 pub record Sound (w : Pool) : Type 0 where
   -- no two live pages have one ticket
-  pub tickets : (t : ℕ) → times t (map (λ (e : Live). e.ticket) w.live) ≤ 1
+  pub tickets : AreDistinct (map (λ (e : Live). e.ticket) w.live)
   -- each live page lies in its cells
   pub pages : (t : ℕ) (e : Live) → Names w t e → Lies w e
   -- the places of all live pages are below the cells of the making, and all differ
-  pub below : (x : ℕ) → 0 < times x (places_of w.live) → x < cells w
-  pub apart : (x : ℕ) → times x (places_of w.live) ≤ 1
+  pub below : AreBelow (cells w) (places_of w.live)
+  pub apart : AreDistinct (places_of w.live)
   -- the cells of the making are 1 to 65,536, and the region has 32 bytes for each
   pub some : 0 < cells w
   pub most : cells w ≤ 65536

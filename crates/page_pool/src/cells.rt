@@ -2,8 +2,8 @@
 
 ghost use Rattle.std.specs.Prelude.{◌≡◌, ℕ, ◌+◌, ◌*◌, ◌<◌, ◌≤◌, length, slice_set, get_or};
 ghost use Rattle.page_pool.specs.Cells.{cells_for};
-ghost use Rattle.page_pool.specs.Chain.{walk, step, times};
-ghost use Rattle.page_pool.specs.Layout.{NONE, link_of, text};
+ghost use Rattle.page_pool.specs.Chain.{AreBelow, AreDistinct, walk, step};
+ghost use Rattle.page_pool.specs.Layout.{NONE, KeepsOthers, cells_from, link_of, text};
 
 /// The characters that a cell holds.
 pub(crate) const CELL: usize = 32;
@@ -25,7 +25,7 @@ pub(crate) fn cells_for(length: usize) -> u32
 
 /// The cell so many links behind another.
 pub(crate) fn cell_at(links: &[u32], from: u32, k: u32) -> u32
-    requires { (x : ℕ) → 0 < times x (walk (link_of links.now) (k + 1) from) → x < length links.now }
+    requires { AreBelow (length links.now) (walk (link_of links.now) (k + 1) from) }
     ensures { result ≡ step (link_of links.now) k from }
 {
     let mut cell = from;
@@ -38,12 +38,12 @@ pub(crate) fn cell_at(links: &[u32], from: u32, k: u32) -> u32
 /// Writes a text along a chain of cells.
 pub(crate) fn write_text(bytes: &mut [u8], links: &[u32], from: u32, chars: &[u8])
     requires short { length chars.now ≤ 400 }
-    requires cells { (x : ℕ) → 0 < times x (walk (link_of links.now) (cells_for (length chars.now)) from) → x < length links.now }
-    requires apart { (x : ℕ) → times x (walk (link_of links.now) (cells_for (length chars.now)) from) ≤ 1 }
+    requires cells { AreBelow (length links.now) (cells_from links.now from (length chars.now)) }
+    requires apart { AreDistinct (cells_from links.now from (length chars.now)) }
     requires room { length bytes.old ≡ 32 * length links.now }
     requires most { length links.now ≤ 65536 }
-    ensures written { text bytes.new (walk (link_of links.now) (cells_for (length chars.now)) from) (length chars.now) ≡ chars.now }
-    ensures others { (k : ℕ) → times k (walk (link_of links.now) (cells_for (length chars.now)) from) ≡ 0 → (j : ℕ) → j < 32 → get_or bytes.new (32 * k + j) 0 ≡ get_or bytes.old (32 * k + j) 0 }
+    ensures written { text bytes.new (cells_from links.now from (length chars.now)) (length chars.now) ≡ chars.now }
+    ensures others { KeepsOthers bytes.old bytes.new (cells_from links.now from (length chars.now)) }
 {
     let mut cell = from;
     for (i, c) in chars.iter().enumerate() {
