@@ -1,0 +1,7 @@
+pub mod Texts
+pub mod Parts
+pub mod Reports
+pub mod Sessions
+pub mod Verdicts
+pub mod Feeds
+mod Rows

@@ -1,0 +1,29 @@
+-- The two parts of a content, as a function.
+use Rattle.std.proofs.Common.{◌≡◌, ◌≢◌, ℕ, List, [], ◌∷◌, ◌++◌, Option, Some, None, refl, ap, ◌∙◌}
+use Rattle.tap_block.specs.Chars.{cr}
+use Rattle.tap_block.specs.Fields.{AreParts, line_cut, parts_of, first_part, second_part}
+use Rattle.tap_block.proofs.First.{line_found}
+use Rattle.tap_block.proofs.Exists.{line_is}
+
+-- the parts of a content are cut out of it
+pub parts_some : (x a b : List ℕ) → AreParts x a b → parts_of x ≡ Some (a, b)
+parts_some x a b p =
+    let e : line_cut x ≡ Some (a, b ++ cr ∷ []) = ap line_cut p.form ∙ line_found a (b ++ cr ∷ []) p.no_cr_first in
+    rw (e, line_found b [] p.no_cr_second) refl
+
+-- by what is cut off first
+cut_parts : (x : List ℕ) (o : Option (List ℕ × List ℕ)) → line_cut x ≡ o → ((a b : List ℕ) → AreParts x a b → ⊥) → first_part o ≡ None
+cut_parts x None e h = refl
+cut_parts x (Some (first, rest)) e h = second (line_cut rest) refl
+  where
+    second : (o : Option (List ℕ × List ℕ)) → line_cut rest ≡ o → second_part first o ≡ None
+    second None f = refl
+    second (Some (b, [])) f =
+        let s = line_is x first rest e in
+        let t = line_is rest b [] f in
+        absurd (h first b (record { form = s.0 ∙ ap (λ z. first ++ cr ∷ z) t.0; no_cr_first = s.1; no_cr_second = t.1 }))
+    second (Some (b, d ∷ more)) f = refl
+
+-- nothing is cut out of a content without parts
+pub parts_none : (x : List ℕ) → ((a b : List ℕ) → AreParts x a b → ⊥) → parts_of x ≡ None
+parts_none x h = cut_parts x (line_cut x) refl h

@@ -1,0 +1,7 @@
+pub mod Replies
+pub mod Reports
+pub mod Texts
+pub mod Verdict
+pub mod Session
+pub mod Desk
+pub mod DeskView

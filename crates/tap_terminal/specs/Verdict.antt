@@ -1,0 +1,73 @@
+-- How a block is judged: docs/profile.md, "judgement".
+use Rattle.std.specs.Prelude.{◌≡◌, ℕ, ◌+◌, nat_le, nat_lt, Bool, true, false, not, if◌then◌else◌, List, [], ◌∷◌, ◌++◌, length, Option, Some, None, Result, Ok, Err}
+use Rattle.tap_block.specs.declared.ends.End.{End}
+use Rattle.tap_block.specs.declared.ends.End.TheVariants.{Etx, Etb, Us}
+use Rattle.tap_block.specs.declared.faults.FieldFault.{FieldFault}
+use Rattle.tap_block.specs.Fields.{read_field, parts_of}
+use Rattle.page_text.specs.Page.{Page}
+use Rattle.page_pool.specs.Cells.{cells_for}
+use Rattle.subscribers.specs.declared.subscriber.Subscriber.{Subscriber}
+use Rattle.tap_terminal.specs.declared.answers.Answer.{Answer}
+use Rattle.tap_terminal.specs.declared.answers.Answer.TheVariants.{Ack, Nak, Rs}
+use Rattle.tap_terminal.specs.declared.answers.Reason.{Reason}
+use Rattle.tap_terminal.specs.declared.answers.Reason.TheVariants.{Body, Content, Form, Unknown, Text, Room}
+use Rattle.tap_terminal.specs.Texts.{fits}
+
+-- the subscriber of an id, or none
+abbrev pub Directory : Type 0
+Directory = List ℕ → Option Subscriber
+
+-- the answer to a block, the content so far after it, and the page that is queued, or none
+pub record Verdict : Type 0 where
+  pub answer : Answer
+  pub joined : List ℕ
+  pub page : Option Page
+
+-- the transaction is refused, and its content is dropped
+abbrev pub refused : Reason → Verdict
+refused reason = record { answer = Rs reason; joined = []; page = None }
+
+-- both values, where both fields have one
+abbrev pub both_values : Result (List ℕ) FieldFault → Result (List ℕ) FieldFault → Option (List ℕ × List ℕ)
+both_values (Ok id) (Ok text) = Some (id, text)
+both_values (Ok id) (Err fault) = None
+both_values (Err fault) second = None
+
+-- the values of the two fields of a content
+abbrev pub values_of : Option (List ℕ × List ℕ) → Option (List ℕ × List ℕ)
+values_of None = None
+values_of (Some (first, second)) = both_values (read_field first) (read_field second)
+
+-- the page of this text to this subscriber, where there is room
+abbrev pub room_for : Subscriber → List ℕ → ℕ → Verdict
+room_for s text spare =
+    if nat_lt spare (cells_for (length text)) then refused Room
+    else record { answer = Ack; joined = []; page = Some (record { capcode = s.capcode; function = s.function; text = text }) }
+
+-- the text for a subscriber, if there is one
+abbrev pub text_for : Option Subscriber → List ℕ → ℕ → Verdict
+text_for None text spare = refused Unknown
+text_for (Some s) text spare = if fits s.function text then room_for s text spare else refused Text
+
+-- the values of the two fields, if both have one
+abbrev pub fields_for : Directory → ℕ → Option (List ℕ × List ℕ) → Verdict
+fields_for directory spare None = refused Form
+fields_for directory spare (Some (id, text)) = text_for (directory id) text spare
+
+-- a whole content
+abbrev pub judge_content : Directory → ℕ → List ℕ → Verdict
+judge_content directory spare content = fields_for directory spare (values_of (parts_of content))
+
+-- the content so far and the body, by the end of the block: ETB and US go on
+abbrev pub by_end : Directory → ℕ → End → List ℕ → Verdict
+by_end directory spare Etx content = judge_content directory spare content
+by_end directory spare other content = record { answer = Ack; joined = content; page = None }
+
+-- The first row of the table of judgements that applies: a wrong trailer, a body of more than 250 characters, a content of more
+-- than 1,000, and then the end.
+abbrev pub verdict : Directory → ℕ → List ℕ → List ℕ → End → Bool → Verdict
+verdict directory spare joined body e right =
+    if not right then record { answer = Nak; joined = joined; page = None }
+    else if nat_lt 250 (length body) then refused Body
+    else if nat_lt 1000 (length joined + length body) then refused Content
+    else by_end directory spare e (joined ++ body)

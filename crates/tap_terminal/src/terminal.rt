@@ -1,0 +1,224 @@
+//! The terminal: docs/profile.md, "session", "judgement" and "length of a session".
+//!
+//! How it is built. A terminal holds a scanner, which reads the characters, and the content of the transaction so far. `feed` takes
+//! one character. Where it completes an item, `judge` answers it, and the item is counted. A whole content goes to `contents`.
+//!
+//! What to mind. A contract sees a terminal as what it holds (`Desk`, `specs/Desk.antt`), and says for which characters it stands
+//! (`Stands`). The session of a whole list is defined without the terminal (`specs/Session.antt`). The body of a block is read from
+//! the scanner before the next character is fed.
+
+ghost use Rattle.std.specs.Prelude.{◌≡◌, ℕ, ◌+◌, ◌≤◌, ◌<◌, ◌++◌, ◌∷◌, [], List, Option, Some, min, take, length, length as length_of};
+ghost use Rattle.tap_block.specs.Chars.{char_of};
+ghost use Rattle.tap_block.specs.Reading.{Entry, a_block};
+ghost use Rattle.tap_block.specs.Brief.{answer_of, BodyIs};
+ghost use Rattle.tap_terminal.specs.Verdict.{Directory};
+ghost use Rattle.tap_terminal.specs.Session.{Session};
+ghost use Rattle.tap_terminal.specs.Desk.{Stands, HearsOn, IsJudged, Keeps, directory_of, unheard};
+
+use crate::answers::{Answer, Reason};
+use crate::contents::judge_content;
+use crate::report::{EMPTY, Report};
+use arrayvec::ArrayVec;
+use page_pool::Pool;
+use std::marker::Model;
+use subscribers::Settings;
+use tap_block::{End, Item, LONGEST_BODY, Scanner};
+
+/// The most characters that the content of a transaction may have.
+pub const LONGEST_CONTENT: usize = 1000;
+
+/// The character of this number in a session that is still open ends it.
+pub const LAST_CHARACTER: u32 = 1_000_000;
+
+/// The wrong line of this number ends a session.
+pub const LAST_WRONG_LINE: u32 = 3;
+
+/// Whether a session goes on.
+#[derive(Clone, Copy, Debug, PartialEq, Eq)]
+pub enum Stage {
+    /// No End was answered.
+    Open,
+    /// Goodbye was answered End.
+    Ended,
+    /// A wrong line or the length of the session was answered End.
+    Forced,
+}
+
+/// One session of the entry line. A contract sees it as what it holds (`Desk`).
+#[derive(Drop)]
+pub struct Terminal {
+    password: Option<[u8; 6]>,
+    scanner: Scanner,
+    /// The content of the transaction so far.
+    joined: ArrayVec<u8, LONGEST_CONTENT>,
+    /// How many characters came.
+    heard: u32,
+    /// How many wrong lines came.
+    wrong: u32,
+    report: Report,
+    stage: Stage,
+}
+
+impl Model for Terminal {
+    ghost use Rattle.tap_terminal.specs.Desk.{Desk};
+
+    ghost Value = { Desk };
+
+    ghost use Rattle.tap_terminal.specs.DeskView.{desk_of, IsInRange};
+
+    ghost view = { desk_of };
+
+    ghost invariant = { IsInRange };
+}
+
+impl Terminal {
+    /// Starts before a session. With a password only the logon with it counts, and without one every logon.
+    pub fn new(password: Option<[u8; 6]>) -> Terminal
+        ensures password { result.password ≡ password }
+        ensures stands { (directory : Directory) (spare : ℕ) → Stands password directory spare result [] unheard spare }
+    {
+        Terminal {
+            password,
+            scanner: Scanner::new(password),
+            joined: ArrayVec::new(),
+            heard: 0,
+            wrong: 0,
+            report: EMPTY,
+            stage: Stage::Open,
+        }
+    }
+
+    /// Starts a new session, with the same password.
+    pub fn begin(&mut self)
+        ensures password { self.new.password ≡ self.old.password }
+        ensures stands { (directory : Directory) (spare : ℕ) → Stands self.old.password directory spare self.new [] unheard spare }
+    {
+        *self = Terminal::new(self.password);
+    }
+
+    /// Takes the character of a byte, and answers it. Nothing is answered exactly where the character completes no item and isn't
+    /// the session's millionth, or an End came before.
+    ///
+    /// Whatever was fed before: where the terminal stands for those characters, it now stands for them and this one. The answers of
+    /// the longer session are those before and this one, and its pages are those before and the one that the pool gained, if any.
+    pub fn feed(&mut self, byte: u8, settings: &Settings, pool: &mut Pool) -> Answer
+        ensures password { self.new.password ≡ self.old.password }
+        ensures hears { (password : Option (List ℕ)) (spare : ℕ) (x : List ℕ) (session : Session)
+            → Stands password (directory_of settings.now) spare self.old x session pool.old.spare
+            → HearsOn password (directory_of settings.now) spare self.new x (char_of byte) session result pool.old pool.new }
+    {
+        match self.stage {
+            Stage::Ended | Stage::Forced => return Answer::Nothing,
+            Stage::Open => {}
+        }
+        if self.heard + 1 == LAST_CHARACTER {
+            self.stage = Stage::Forced;
+            return Answer::End;
+        }
+        self.heard += 1;
+        match self.scanner.feed(byte) {
+            None => Answer::Nothing,
+            Some(item) => {
+                let answer = self.judge(item, settings, pool);
+                self.report.count(item, answer);
+                answer
+            }
+        }
+    }
+
+    /// Whether a wrong line or the length ended this session.
+    pub fn forced(&self) -> bool
+        ensures { (password : Option (List ℕ)) (directory : Directory) (spare left : ℕ) (x : List ℕ) (session : Session)
+            → Stands password directory spare self.now x session left → result ≡ session.forced }
+    {
+        match self.stage {
+            Stage::Open | Stage::Ended => false,
+            Stage::Forced => true,
+        }
+    }
+
+    /// How often each answer came in this session.
+    pub fn report(&self) -> Report
+        ensures { (password : Option (List ℕ)) (directory : Directory) (spare left : ℕ) (x : List ℕ) (session : Session)
+            → Stands password directory spare self.now x session left → result ≡ session.report }
+    {
+        self.report
+    }
+
+    /// Answers an item.
+    fn judge(&mut self, item: Item, settings: &Settings, pool: &mut Pool) -> Answer
+        requires room { self.old.wrong < self.old.heard }
+        requires stage { self.old.stage ≡ Stage.Open }
+        ensures keeps { Keeps self.old self.new }
+        ensures judged { (e : Entry) → item ≡ answer_of e → BodyIs (Some e) self.old.scanner.kept
+            → IsJudged (directory_of settings.now) self.old self.new e result pool.old pool.new }
+    {
+        match item {
+            Item::EmptyLine => Answer::Id,
+            Item::Logon => Answer::Go,
+            Item::WrongLine => {
+                self.wrong += 1;
+                if self.wrong == LAST_WRONG_LINE {
+                    self.stage = Stage::Forced;
+                    Answer::End
+                } else {
+                    Answer::Nak
+                }
+            }
+            Item::Bye => {
+                self.stage = Stage::Ended;
+                Answer::End
+            }
+            Item::Block {
+                end,
+                sum_ok,
+                length,
+            } => self.judge_block(end, sum_ok, length, settings, pool),
+        }
+    }
+
+    /// Answers a block.
+    fn judge_block(
+        &mut self,
+        end: End,
+        sum_ok: bool,
+        length: u32,
+        settings: &Settings,
+        pool: &mut Pool,
+    ) -> Answer
+        requires { self.old.stage ≡ Stage.Open }
+        ensures keeps { Keeps self.old self.new }
+        ensures judged { (b : List ℕ) → length ≡ min (length_of b) 251 → self.old.scanner.kept ≡ take 250 b
+            → IsJudged (directory_of settings.now) self.old self.new (a_block b end sum_ok) result pool.old pool.new }
+    {
+        if !sum_ok {
+            return Answer::Nak;
+        }
+        if length as usize > LONGEST_BODY {
+            self.joined.clear();
+            return Answer::Rs(Reason::Body);
+        }
+        let body = self.scanner.body();
+        if self.joined.len() + body.len() > LONGEST_CONTENT {
+            self.joined.clear();
+            return Answer::Rs(Reason::Content);
+        }
+        append(&mut self.joined, body);
+        match end {
+            End::Etb | End::Us => Answer::Ack,
+            End::Etx => {
+                let answer = judge_content(self.joined.as_slice(), settings, pool);
+                self.joined.clear();
+                answer
+            }
+        }
+    }
+}
+
+/// Appends a body to the content so far.
+fn append(joined: &mut ArrayVec<u8, LONGEST_CONTENT>, body: &[u8])
+    requires { length joined.old.items + length body.now ≤ 1000 }
+    ensures { joined.new.items ≡ joined.old.items ++ body.now }
+{
+    let _ = joined.try_extend_from_slice(body);
+}
