@@ -13,6 +13,8 @@ pub mod report;
 pub mod terminal;
 #[cfg(test)]
 mod tests;
+#[cfg(test)]
+mod twin;
 
 pub use answers::{Answer, Reason, reply};
 pub use report::Report;

@@ -2,6 +2,7 @@
 ghost use Rattle.std.specs.Prelude.{IfSome};
 ghost use Rattle.page_pool.specs.Pool.{IsLive};
 
+use crate::twin::played;
 use crate::*;
 use codeword::Function;
 use page_pool::{Pool, Ticket};
@@ -26,14 +27,14 @@ subscriber = [
 type Piece = (&'static [u8], usize);
 
 /// A page: its capcode, its function, its text.
-type Page = (u32, Function, &'static [u8]);
+type Page<'a> = (u32, Function, &'a [u8]);
 
 /// A session: the cells of the pool, what is heard, what is answered, the pages, and the counts of the report in its order.
 struct Row {
     cells: u32,
     heard: &'static [Piece],
     answers: &'static [Answer],
-    pages: &'static [Page],
+    pages: &'static [Page<'static>],
     counts: [u32; 10],
 }
 
@@ -293,7 +294,7 @@ fn text(alloc: Global, pool: &Pool, t: Ticket) -> Result<Vec<u8>, AllocError>
 }
 
 /// Takes a page out of the pool: whether the first of its frame is this one.
-fn take(alloc: Global, pool: &mut Pool, wanted: Page) -> Result<bool, AllocError> {
+fn take(alloc: Global, pool: &mut Pool, wanted: Page<'_>) -> Result<bool, AllocError> {
     let (capcode, function, letters) = wanted;
     let Some(t) = first(pool, capcode % 8) else {
         return Ok(false);
@@ -341,6 +342,89 @@ fn sessions_are_answered(rt: HostRuntime) -> Result<(), Fail> {
         for cut in 0..=60 {
             compare(&rt, rt.alloc(), &settings, row, cut)?;
         }
+    }
+    Ok(())
+}
+
+/// Sessions for the plain program: junk, dropped bodies, wrong trailers, refusals, and transactions that go on.
+const SESSIONS: [&[Piece]; 8] = [
+    &[(
+        b"\r\x1BPG1\rjunk\x04x\x02drop\x025551234\rHELLO\r\x032?<\r\x04\r\r",
+        0,
+    )],
+    &[(
+        b"\n\r\x1BPG1secret\n\r\x02M\rB\r\x03\r\x0215\r\r\x03085\r\x0215\r\r\x03085x",
+        0,
+    )],
+    &[(
+        b"\x1BPG1\r\x025551234\rA\x1A\x1F1?2\r\x02M\rB\r\x1701=\r\x02M\x03051\r\x04\r",
+        0,
+    )],
+    &[(
+        b"x\ry\r\x1BPG1\r\x02\x03005\r\x02999\rX\r\x03122\r\x04\x04\r",
+        0,
+    )],
+    &[(b"x\ry\r\x1BPG1x\r\x1BPG1\r", 0)],
+    &[
+        (b"\x1BPG1\r\x025551234\r", 242),
+        (b"\x1F?09\r\x02", 158),
+        (b"\r\x03830\r", 0),
+    ],
+    &[
+        (b"\x1BPG1\r\x02", 250),
+        (b"\x1F?9;\r\x02", 250),
+        (b"\x1F?9;\r\x02", 250),
+        (b"\x1F?9;\r\x02", 250),
+        (b"\x1F?9;\r\x02A\x1F062\r", 0),
+    ],
+    &[
+        (b"\x1BPG1\r\x025551234\r", 242),
+        (b"\r\x03>?:\r\x025551234\r", 64),
+        (b"\r\x031<8\r\x025551234\rA\r\x031<9\r\x04\r", 0),
+    ],
+];
+
+/// Hears characters in two pieces, and compares what comes of it with the plain program.
+fn agree(
+    rt: &impl Abort,
+    alloc: Global,
+    settings: &Settings,
+    heard: &[u8],
+    cut: usize,
+) -> Result<(), Fail> {
+    let mut pool = Pool::new(alloc, 2)?;
+    let mut terminal = Terminal::new(None);
+    let mut answers = Vec::new(alloc);
+    let plain = played(alloc, settings, 2, heard)?;
+    if cut <= heard.len() {
+        let (front, rest) = heard.split_at(cut);
+        hear(&mut terminal, settings, &mut pool, front, &mut answers)?;
+        hear(&mut terminal, settings, &mut pool, rest, &mut answers)?;
+        assert!(rt;
+            answers.as_slice() == plain.answers.as_slice(),
+            "cut at {cut}"
+        );
+        for page in &plain.pages {
+            let wanted = (page.capcode, page.function, page.text.as_slice());
+            assert!(rt; take(alloc, &mut pool, wanted)?, "cut at {cut}");
+        }
+        assert_eq!(rt; pool.count(), 0, "cut at {cut}");
+    }
+    Ok(())
+}
+
+#[test]
+fn sessions_are_those_of_the_plain_program(rt: HostRuntime) -> Result<(), Fail> {
+    let settings = settings(rt.alloc(), SIX)?;
+    for pieces in &SESSIONS {
+        let heard = characters(rt.alloc(), pieces)?;
+        for cut in 0..=80 {
+            agree(&rt, rt.alloc(), &settings, &heard, cut)?;
+        }
+    }
+    for row in &ROWS {
+        let heard = characters(rt.alloc(), row.heard)?;
+        agree(&rt, rt.alloc(), &settings, &heard, 0)?;
     }
     Ok(())
 }
