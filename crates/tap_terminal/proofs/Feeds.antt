@@ -1,5 +1,5 @@
 -- One character further in a session.
-use Rattle.std.proofs.Common.{◌≡◌, ◌≢◌, ℕ, suc, zero, ◌+◌, ◌-◌, ◌<◌, ◌≤◌, ◌==◌, cond, Bool, true, false, not, ◌||◌, ◌&&◌, List, [], ◌∷◌, ◌++◌, length, take, map, refl, ap, sym, ◌∙◌, subst, append_assoc, append-nil, arith, Option, Some, None, length-append, ◌⊎◌, inl, inr}
+use Rattle.std.proofs.Common.{◌≡◌, ℕ, ◌+◌, ◌<◌, ◌≤◌, cond, Bool, true, false, not, ◌||◌, ◌&&◌, List, [], ◌∷◌, ◌++◌, length, map, refl, ap, sym, ◌∙◌, subst, append_assoc, append-nil, arith, Option, Some, None, length-append, ◌⊎◌, inl, inr}
 use Rattle.std.specs.List.{filter_map}
 use Rattle.std.specs.Option.{option_to_list, option_map}
 use Rattle.std.proofs.lemmas.List.Elements.{filter_map-append}
@@ -8,19 +8,19 @@ use Rattle.page_text.specs.Page.{Page}
 use Rattle.page_pool.specs.Pool.{Pool}
 use Rattle.tap_block.specs.declared.items.Item.{Item}
 use Rattle.tap_block.specs.Brief.{Held, StandsFor, ReadsOn, answer_of, BodyIs}
-use Rattle.tap_block.specs.Reading.{Entry, empty_line, logon, wrong_line, a_block, a_bye, Mode, BeforeLogon}
+use Rattle.tap_block.specs.Reading.{Entry, empty_line, logon, wrong_line, a_block, a_bye, BeforeLogon}
 use Rattle.tap_terminal.specs.declared.answers.Answer.{Answer}
-use Rattle.tap_terminal.specs.declared.answers.Answer.TheVariants.{Nothing, Id, Go, Ack, Nak, Rs, End}
+use Rattle.tap_terminal.specs.declared.answers.Answer.TheVariants.{Nothing, End}
 use Rattle.tap_terminal.specs.declared.report.Report.{Report}
 use Rattle.tap_terminal.specs.declared.terminal.Stage.{Stage}
 use Rattle.tap_terminal.specs.declared.terminal.Stage.TheVariants.{Open, Ended, Forced}
-use Rattle.tap_terminal.specs.Reports.{Counter, counter_of, counts, added}
+use Rattle.tap_terminal.specs.Reports.{counter_of, counts, added}
 use Rattle.tap_terminal.specs.Verdict.{Directory}
-use Rattle.tap_terminal.specs.Session.{Course, Told, Session, Decided, start, decide, tell, has_end, has_wrong_end, is_end, is_wrong, answers_of, pages_of, report_of, session_of, IsSession}
-use Rattle.tap_terminal.specs.Desk.{Desk, course_at, course_of, sum_up, IsOpenAt, IsOver, StandsAt, Stands, HearsOn, IsJudged, Keeps, Gains, said, is_open, is_forced, stage_after}
+use Rattle.tap_terminal.specs.Session.{Course, Told, Session, start, decide, tell, has_end, has_wrong_end, is_end, is_wrong, answers_of, pages_of, report_of, IsSession}
+use Rattle.tap_terminal.specs.Desk.{Desk, course_at, course_of, sum_up, IsOpenAt, IsOver, StandsAt, Stands, HearsOn, IsJudged, Keeps, said, is_open, is_forced, stage_after}
 use Rattle.tap_terminal.proofs.Reports.{counts-push}
 use Rattle.tap_terminal.proofs.Verdicts.{item_said}
-use Rattle.tap_terminal.proofs.Sessions.{tell-append_open, course_at-append, has_end-append, has_wrong_end-append, no_wrong_end, settled, short_settled, by_length, cut_off, over_by_end, over_by_length, session_from}
+use Rattle.tap_terminal.proofs.Sessions.{tell-append_open, course_at-append, has_end-append, has_wrong_end-append, no_wrong_end, settled, short_settled, cut_off, over_by_end, over_by_length, session_from}
 
 -- a session that is over, at its stage
 over_at : (st : Stage) (password : Option (List ℕ)) (directory : Directory) (spare : ℕ) (t : Desk) (x : List ℕ) (session : Session) (left : ℕ)

@@ -4,4 +4,5 @@ pub mod Reports
 pub mod Sessions
 pub mod Verdicts
 pub mod Feeds
+pub mod Fronts
 mod Rows

@@ -1,5 +1,5 @@
 -- The two parts of a content, as a function.
-use Rattle.std.proofs.Common.{◌≡◌, ◌≢◌, ℕ, List, [], ◌∷◌, ◌++◌, Option, Some, None, refl, ap, ◌∙◌}
+use Rattle.std.proofs.Common.{◌≡◌, ℕ, List, [], ◌∷◌, ◌++◌, Option, Some, None, refl, ap, ◌∙◌}
 use Rattle.tap_block.specs.Chars.{cr}
 use Rattle.tap_block.specs.Fields.{AreParts, line_cut, parts_of, first_part, second_part}
 use Rattle.tap_block.proofs.First.{line_found}

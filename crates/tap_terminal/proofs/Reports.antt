@@ -1,11 +1,11 @@
 -- How reports grow.
-use Rattle.std.proofs.Common.{◌≡◌, ℕ, ◌+◌, ◌≤◌, ◌==◌, cond, Bool, true, false, List, [], ◌∷◌, ◌++◌, refl, ap, sym, ◌∙◌, arith}
+use Rattle.std.proofs.Common.{◌≡◌, ℕ, ◌+◌, ◌≤◌, ◌==◌, cond, Bool, List, [], ◌∷◌, ◌++◌, refl, ◌∙◌, arith}
 use native.Mathlib.Numerals.{unary_clauses}
 use Rattle.std.specs.Prelude.{count_by}
 use Rattle.std.proofs.lemmas.List.Sums.{sum_by-append}
 use Rattle.tap_terminal.specs.declared.answers.Reason.TheVariants.{Body, Content, Form, Unknown, Text, Room}
 use Rattle.tap_terminal.specs.declared.report.Report.{Report}
-use Rattle.tap_terminal.specs.Reports.{Counter, a_page, a_continued, a_nak, refusal, a_wrong, uncounted, number_of, times, counts, added, tally}
+use Rattle.tap_terminal.specs.Reports.{Counter, a_page, a_continued, a_nak, refusal, a_wrong, uncounted, number_of, counts, added, tally}
 
 -- how many of two lists
 pub count_by-append : {X : Type 0} (p : X → Bool) (xs ys : List X) → count_by p (xs ++ ys) ≡ count_by p xs + count_by p ys

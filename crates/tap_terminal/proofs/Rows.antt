@@ -1,18 +1,17 @@
 -- Worked sessions, by computation.
-use Rattle.std.proofs.Common.{◌≡◌, ℕ, List, [], ◌∷◌, ◌++◌, length, refl, Bool, true, false, Option, Some, None, replicate}
+use Rattle.std.proofs.Common.{◌≡◌, ℕ, List, [], ◌∷◌, ◌++◌, length, refl, true, false, Option, Some, None, replicate}
 use Rattle.std.specs.Prelude.{codes}
 use Rattle.std.specs.Ordering.{nat_cmp}
 use Rattle.std.specs.Cmp.Lexicographic.{slice_cmp, nat_list_cmp_total}
 use Rattle.std.specs.FinMap.{find, from_entries, get, get-from_entries}
-use Rattle.codeword.specs.declared.functions.Function.TheVariants.{Numeric, Tone1, Tone2, Alpha}
+use Rattle.codeword.specs.declared.functions.Function.TheVariants.{Numeric, Tone1, Alpha}
 use Rattle.page_text.specs.Page.{Page}
 use Rattle.subscribers.specs.Parts.{Ids}
 use Rattle.subscribers.specs.declared.subscriber.Subscriber.{Subscriber}
-use Rattle.tap_block.specs.Chars.{stx, etx, eot, cr, lf, etb, us, sub, esc}
+use Rattle.tap_block.specs.Chars.{stx, etx, eot, cr, us, sub, esc}
 use Rattle.tap_block.specs.Reading.{BeforeLogon, items_of}
 use Rattle.tap_block.proofs.Exists.{cut}
-use Rattle.tap_terminal.specs.declared.answers.Answer.{Answer}
-use Rattle.tap_terminal.specs.declared.answers.Answer.TheVariants.{Nothing, Id, Go, Ack, Nak, Rs, End}
+use Rattle.tap_terminal.specs.declared.answers.Answer.TheVariants.{Id, Go, Ack, Nak, Rs, End}
 use Rattle.tap_terminal.specs.declared.answers.Reason.TheVariants.{Body, Content, Form, Unknown, Text, Room}
 use Rattle.tap_terminal.specs.declared.report.Report.{Report}
 use Rattle.tap_terminal.specs.Replies.{replies}

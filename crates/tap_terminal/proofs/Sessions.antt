@@ -1,17 +1,16 @@
 -- How a session goes on.
-use Rattle.std.proofs.Common.{◌≡◌, ◌≢◌, ℕ, suc, zero, ◌+◌, ◌-◌, ◌<◌, ◌≤◌, ◌==◌, cond, Bool, true, false, not, ◌||◌, ◌&&◌, List, [], ◌∷◌, ◌++◌, length, take, map, refl, ap, sym, ◌∙◌, subst, append_assoc, append-nil, arith, Option, Some, None, length-append, nat_le}
-use Rattle.std.specs.List.{filter_map}
+use Rattle.std.proofs.Common.{◌≡◌, ℕ, ◌+◌, ◌-◌, ◌≤◌, cond, Bool, true, false, not, ◌||◌, ◌&&◌, List, [], ◌∷◌, ◌++◌, length, take, refl, ap, sym, ◌∙◌, subst, append_assoc, append-nil, arith, Option, length-append, nat_le}
 use Rattle.std.specs.Option.{option_to_list}
 use Rattle.std.proofs.lemmas.List.{take_all, take-append-le}
 use Rattle.std.proofs.lemmas.Bool.Decides.{nat_tests}
 use Rattle.std.proofs.Math.Seq.{take-append-add}
-use Rattle.tap_block.specs.Brief.{Held, StandsFor, ReadsOn, answer_of, BodyIs}
-use Rattle.tap_block.specs.Reading.{Entry, Mode, BeforeLogon, Piece, Reads, items_of}
+use Rattle.tap_block.specs.Brief.{Held, StandsFor}
+use Rattle.tap_block.specs.Reading.{Entry, BeforeLogon, Reads, items_of}
 use Rattle.tap_block.specs.Step.{step}
 use Rattle.tap_block.proofs.Grows.{stands_on, step-password}
 use Rattle.tap_block.proofs.OneReading.{at_most_one}
 use Rattle.tap_terminal.specs.declared.answers.Answer.{Answer}
-use Rattle.tap_terminal.specs.declared.answers.Answer.TheVariants.{Nothing, Id, Go, Ack, Nak, Rs, End}
+use Rattle.tap_terminal.specs.declared.answers.Answer.TheVariants.{End}
 use Rattle.tap_terminal.specs.Verdict.{Directory}
 use Rattle.tap_terminal.specs.Session.{Course, Told, Session, start, decide, tell, has_end, is_end, is_wrong, has_wrong_end, is_too_long, longest, answers_of, pages_of, report_of, session_of, IsSession}
 use Rattle.tap_terminal.specs.Desk.{course_at, sum_up, IsOver}
@@ -152,7 +151,7 @@ session_from password directory spare s x z items h e f =
     })
 
 -- the front of a list and more
-take_over : (n : ℕ) (x y : List ℕ) → length x ≤ n → take n (x ++ y) ≡ x ++ take (n - length x) y
+pub take_over : (n : ℕ) (x y : List ℕ) → length x ≤ n → take n (x ++ y) ≡ x ++ take (n - length x) y
 take_over n x y h = let e : n ≡ length x + (n - length x) = omega arith in ap (λ k. take k (x ++ y)) e ∙ take-append-add x y (n - length x)
 
 -- an End among the items ends the session

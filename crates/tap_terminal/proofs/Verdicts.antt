@@ -1,31 +1,27 @@
 -- Verdicts, case by case.
-use Rattle.std.proofs.Common.{◌≡◌, ◌≢◌, ℕ, ◌+◌, ◌-◌, ◌<◌, ◌≤◌, ◌==◌, cond, Bool, true, false, not, List, [], ◌∷◌, ◌++◌, length, take, map, refl, ap, sym, ◌∙◌, subst, append-nil, arith, Option, Some, None, Result, Ok, Err, min, nat_lt, ◌⊎◌, inl, inr}
+use Rattle.std.proofs.Common.{◌≡◌, ℕ, ◌+◌, ◌-◌, ◌<◌, ◌≤◌, ◌==◌, cond, Bool, true, false, not, List, [], ◌∷◌, ◌++◌, length, take, map, refl, ap, sym, ◌∙◌, subst, append-nil, arith, Option, Some, None, Ok, min, nat_lt, ◌⊎◌, inl, inr}
 use Rattle.std.specs.Option.{option_to_list}
 use Rattle.std.proofs.lemmas.List.{take_all, map-append}
 use Rattle.std.proofs.lemmas.Bool.Decides.{nat_tests}
-use Rattle.codeword.specs.declared.functions.Function.{Function}
 use Rattle.page_text.specs.Page.{Page}
 use Rattle.page_text.specs.Fits.{Fits}
-use Rattle.page_pool.specs.Cells.{cells_for, cells_of}
+use Rattle.page_pool.specs.Cells.{cells_for}
 use Rattle.page_pool.specs.Pool.{Pool, Live, Puts, pages, page}
 use Rattle.subscribers.specs.declared.subscriber.Subscriber.{Subscriber}
 use Rattle.tap_block.specs.declared.ends.End.{End as BlockEnd}
 use Rattle.tap_block.specs.declared.ends.End.TheVariants.{Etx, Etb, Us}
 use Rattle.tap_block.specs.declared.faults.FieldFault.{FieldFault}
 use Rattle.tap_block.specs.Fields.{AreParts, parts_of, read_field, HasValue, HasFault}
-use Rattle.tap_block.specs.Brief.{Held}
 use Rattle.tap_block.specs.Reading.{Entry, empty_line, logon, wrong_line, a_block, a_bye}
 use Rattle.tap_block.proofs.Values.{value_read, fault_read}
 use Rattle.tap_terminal.specs.declared.answers.Answer.{Answer}
-use Rattle.tap_terminal.specs.declared.answers.Answer.TheVariants.{Nothing, Id, Go, Ack, Nak, Rs, End}
-use Rattle.tap_terminal.specs.declared.answers.Reason.TheVariants.{Body, Content, Form, Unknown, Text, Room}
-use Rattle.tap_terminal.specs.declared.report.Report.{Report}
-use Rattle.tap_terminal.specs.declared.terminal.Stage.{Stage}
-use Rattle.tap_terminal.specs.declared.terminal.Stage.TheVariants.{Open, Ended, Forced}
+use Rattle.tap_terminal.specs.declared.answers.Answer.TheVariants.{Ack, Nak, Rs, End}
+use Rattle.tap_terminal.specs.declared.answers.Reason.TheVariants.{Body, Content, Form, Text, Room}
+use Rattle.tap_terminal.specs.declared.terminal.Stage.TheVariants.{Open, Ended}
 use Rattle.tap_terminal.specs.Texts.{fits}
 use Rattle.tap_terminal.specs.Verdict.{Directory, Verdict, refused, both_values, values_of, fields_for, text_for, room_for, judge_content, by_end, verdict}
 use Rattle.tap_terminal.specs.Session.{is_end, cells_for_page, Course, decide}
-use Rattle.tap_terminal.specs.Desk.{Desk, Gains, IsDone, IsJudged, said, stage_after}
+use Rattle.tap_terminal.specs.Desk.{Desk, Gains, IsDone, IsJudged, said}
 use Rattle.tap_terminal.proofs.Parts.{parts_some, parts_none}
 use Rattle.tap_terminal.proofs.Texts.{fits_from_test, test_from_fits}
 

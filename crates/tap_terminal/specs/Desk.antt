@@ -1,14 +1,14 @@
 -- What a terminal holds, and the characters that it stands for.
-use Rattle.std.specs.Prelude.{◌≡◌, ℕ, ◌+◌, ◌≤◌, Bool, true, false, List, [], ◌∷◌, ◌++◌, length, if◌then◌else◌, Option, Some, None}
+use Rattle.std.specs.Prelude.{◌≡◌, ℕ, ◌≤◌, Bool, true, false, List, [], ◌∷◌, ◌++◌, length, if◌then◌else◌, Option, Some, None}
 use Rattle.std.specs.Option.{option_to_list}
 use Rattle.std.specs.FinMap.{get}
 use Rattle.page_text.specs.Page.{Page}
 use Rattle.page_pool.specs.Pool.{Pool, Puts}
 use Rattle.subscribers.specs.Parts.{Parts}
-use Rattle.tap_block.specs.Brief.{Held, StandsFor, answer_of}
+use Rattle.tap_block.specs.Brief.{Held, StandsFor}
 use Rattle.tap_block.specs.Reading.{Entry, BeforeLogon}
 use Rattle.tap_terminal.specs.declared.answers.Answer.{Answer}
-use Rattle.tap_terminal.specs.declared.answers.Answer.TheVariants.{Nothing, Id, Go, Ack, Nak, Rs, End}
+use Rattle.tap_terminal.specs.declared.answers.Answer.TheVariants.{Nothing}
 use Rattle.tap_terminal.specs.declared.report.Report.{Report}
 use Rattle.tap_terminal.specs.declared.terminal.Stage.{Stage}
 use Rattle.tap_terminal.specs.declared.terminal.Stage.TheVariants.{Open, Ended, Forced}

@@ -1,5 +1,5 @@
 -- What a terminal's fields stand for.
-use Rattle.std.specs.Prelude.{ℕ, ◌≤◌}
+use Rattle.std.specs.Prelude.{◌≤◌}
 use Rattle.tap_terminal.specs.declared.terminal.Terminal.TheInside.{Inside}
 use Rattle.tap_terminal.specs.Desk.{Desk}
 use Rattle.tap_terminal.specs.Reports.{tally}

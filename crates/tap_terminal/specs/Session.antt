@@ -3,12 +3,12 @@ use Rattle.std.specs.Prelude.{◌≡◌, ℕ, ◌+◌, ◌-◌, nat_le, ◌==◌
 use Rattle.std.specs.List.{filter_map}
 use Rattle.page_text.specs.Page.{Page}
 use Rattle.page_pool.specs.Cells.{cells_of}
-use Rattle.tap_block.specs.Reading.{Entry, empty_line, logon, wrong_line, a_block, a_bye, Mode, BeforeLogon, Piece, Reads, items_of}
+use Rattle.tap_block.specs.Reading.{Entry, empty_line, logon, wrong_line, a_block, a_bye, BeforeLogon, Piece, Reads, items_of}
 use Rattle.tap_block.specs.Brief.{answer_of}
 use Rattle.tap_terminal.specs.declared.answers.Answer.{Answer}
-use Rattle.tap_terminal.specs.declared.answers.Answer.TheVariants.{Nothing, Id, Go, Ack, Nak, Rs, End}
+use Rattle.tap_terminal.specs.declared.answers.Answer.TheVariants.{Id, Go, Nak, End}
 use Rattle.tap_terminal.specs.declared.report.Report.{Report}
-use Rattle.tap_terminal.specs.Reports.{Counter, counter_of, counts}
+use Rattle.tap_terminal.specs.Reports.{counter_of, counts}
 use Rattle.tap_terminal.specs.Verdict.{Directory, Verdict, verdict}
 
 -- the last character of a session that isn't ended by an item
@@ -127,3 +127,10 @@ pub record IsSession (password : Option (List ℕ)) (directory : Directory) (spa
   pub rest : List ℕ
   pub reads : Reads password BeforeLogon pieces rest (take 999999 x)
   pub session_is : session ≡ session_of (tell directory (start spare) (items_of password pieces)) (length x)
+
+-- the answers and the pages of the front are the first of the whole
+pub record Continues (front whole : Session) : Type 0 where
+  pub answers : List Answer
+  pub pages : List Page
+  pub answers_are : whole.answers ≡ front.answers ++ answers
+  pub pages_are : whole.pages ≡ front.pages ++ pages

@@ -1,7 +1,7 @@
 -- How a block is judged: docs/profile.md, "judgement".
-use Rattle.std.specs.Prelude.{◌≡◌, ℕ, ◌+◌, nat_le, nat_lt, Bool, true, false, not, if◌then◌else◌, List, [], ◌∷◌, ◌++◌, length, Option, Some, None, Result, Ok, Err}
+use Rattle.std.specs.Prelude.{ℕ, ◌+◌, nat_lt, Bool, not, if◌then◌else◌, List, [], ◌++◌, length, Option, Some, None, Result, Ok, Err}
 use Rattle.tap_block.specs.declared.ends.End.{End}
-use Rattle.tap_block.specs.declared.ends.End.TheVariants.{Etx, Etb, Us}
+use Rattle.tap_block.specs.declared.ends.End.TheVariants.{Etx}
 use Rattle.tap_block.specs.declared.faults.FieldFault.{FieldFault}
 use Rattle.tap_block.specs.Fields.{read_field, parts_of}
 use Rattle.page_text.specs.Page.{Page}

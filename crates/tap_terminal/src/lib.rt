@@ -4,11 +4,15 @@
 //! - `answers`: what a character is answered, and the bytes of a reply.
 //! - `report`: how often each answer came.
 //! - `contents`: the judgement of a whole content.
+//! - `laws`: what the definitions say, whatever the characters.
 //! - `terminal`: the terminal itself.
 #![tactic(auto)]
 
 pub mod answers;
 mod contents;
+#[cfg(test)]
+mod examples;
+pub mod laws;
 pub mod report;
 pub mod terminal;
 #[cfg(test)]

@@ -1,4 +1,4 @@
-use Rattle.std.proofs.Common.{◌≡◌, refl, ap, sym, ◌∙◌}
+use Rattle.std.proofs.Common.{refl, sym, ◌∙◌}
 use Rattle.tap_terminal.proofs.Verdicts.{misfit_done, full_done, put_done}
 use Rattle.tap_terminal.proofs.contents.queue.Goals as goal
 

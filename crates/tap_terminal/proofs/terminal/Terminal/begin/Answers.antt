@@ -1,4 +1,4 @@
-use Rattle.std.proofs.Common.{◌≡◌, ℕ, [], List, Option, refl, ap, sym, ◌∙◌, subst}
+use Rattle.std.proofs.Common.{ℕ, [], List, Option, ap, sym, subst}
 use Rattle.tap_terminal.specs.Desk.{Desk, Stands, unheard}
 use Rattle.tap_terminal.proofs.terminal.Terminal.begin.Goals as goal
 

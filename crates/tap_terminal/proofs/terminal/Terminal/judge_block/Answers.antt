@@ -1,4 +1,4 @@
-use Rattle.std.proofs.Common.{◌≡◌, ◌≤◌, ◌<◌, ◌+◌, ◌++◌, ℕ, List, None, length, refl, ap, sym, ◌∙◌, subst, arith, rules}
+use Rattle.std.proofs.Common.{◌≡◌, ◌≤◌, ◌<◌, ◌+◌, ◌++◌, None, length, refl, ap, sym, ◌∙◌, subst, arith}
 use Rattle.tap_terminal.specs.declared.answers.Answer.TheVariants.{Rs, Ack}
 use Rattle.tap_terminal.specs.declared.answers.Reason.TheVariants.{Content}
 use Rattle.tap_terminal.specs.Verdict.{Verdict, refused, by_end, judge_content}
