@@ -76,22 +76,24 @@ fn one_block_becomes_one_transmission(rt: HostRuntime) -> Result<(), Fail> {
     Ok(())
 }
 
+/// Words that are no command's.
+const NO_COMMANDS: [&[&str]; 11] = [
+    &[],
+    &["one"],
+    &["one", "2007664"],
+    &["one", "2045063"],
+    &["one", "2097152"],
+    &["one", "08x"],
+    &["one", "+8"],
+    &["one", ""],
+    &["one", "00000008"],
+    &["one", "8", "9"],
+    &["show", "air.bin"],
+];
+
 #[test]
 fn words_that_are_no_command_are_usage(rt: HostRuntime) -> Result<(), Fail> {
-    let table: [&[&str]; 11] = [
-        &[],
-        &["one"],
-        &["one", "2007664"],
-        &["one", "2045063"],
-        &["one", "2097152"],
-        &["one", "08x"],
-        &["one", "+8"],
-        &["one", ""],
-        &["one", "00000008"],
-        &["one", "8", "9"],
-        &["show", "air.bin"],
-    ];
-    for words in table {
+    for words in NO_COMMANDS {
         let mut input = MemorySource::new(rt.alloc(), ABC, 14, &[1])?;
         let mut out = MemorySink::new(rt.alloc(), 140, &[])?;
         let mut err = MemorySink::new(rt.alloc(), 100, &[])?;
@@ -127,23 +129,25 @@ fn refused(
     Ok(true)
 }
 
+/// Inputs that aren't one block.
+const NO_BLOCKS: [&[u8]; 10] = [
+    b"",
+    b"\x02",
+    b"\x02123\rABC\r\x0317;\rx",
+    b"x\x02123\rABC\r\x0317;\r",
+    b"\x02123\rABC\r\x0317;",
+    b"\x02123\rABC\r\x1718?\r",
+    b"\x02123\rABC\r\x1F190\r",
+    b"\x02123\rABC\r\x02123\rABC\r\x0317;\r",
+    b"\x03\x0317;\r",
+    b"\r",
+];
+
 #[test]
 fn other_input_is_no_block(rt: HostRuntime) -> Result<(), Fail> {
-    let table: [&[u8]; 10] = [
-        b"",
-        b"\x02",
-        b"\x02123\rABC\r\x0317;\rx",
-        b"x\x02123\rABC\r\x0317;\r",
-        b"\x02123\rABC\r\x0317;",
-        b"\x02123\rABC\r\x1718?\r",
-        b"\x02123\rABC\r\x1F190\r",
-        b"\x02123\rABC\r\x02123\rABC\r\x0317;\r",
-        b"\x03\x0317;\r",
-        b"\r",
-    ];
     let all = refused(
         rt.alloc(),
-        &table,
+        &NO_BLOCKS,
         Status::NotBlock,
         8,
         b"pocsag: not a block\n",
@@ -152,21 +156,23 @@ fn other_input_is_no_block(rt: HostRuntime) -> Result<(), Fail> {
     Ok(())
 }
 
+/// Blocks with a wrong trailer.
+const WRONG_SUMS: [&[u8]; 7] = [
+    b"\x02123\rABC\r\x0317<\r",
+    b"\x02123\rABC\r\x0317;\n",
+    b"\x02123\rABC\r\x03\r",
+    b"\x02123\rABC\r\x0317\r",
+    b"\x02123\rABC\r\x03017;",
+    b"\x02123\rABC\x0317;\r",
+    b"\x02\x03000\r",
+];
+
 /// A wrong trailer comes before a text that isn't there.
 #[test]
 fn a_wrong_trailer_is_a_wrong_sum(rt: HostRuntime) -> Result<(), Fail> {
-    let table: [&[u8]; 7] = [
-        b"\x02123\rABC\r\x0317<\r",
-        b"\x02123\rABC\r\x0317;\n",
-        b"\x02123\rABC\r\x03\r",
-        b"\x02123\rABC\r\x0317\r",
-        b"\x02123\rABC\r\x03017;",
-        b"\x02123\rABC\x0317;\r",
-        b"\x02\x03000\r",
-    ];
     let all = refused(
         rt.alloc(),
-        &table,
+        &WRONG_SUMS,
         Status::BadSum,
         9,
         b"pocsag: wrong sum\n",
@@ -175,23 +181,31 @@ fn a_wrong_trailer_is_a_wrong_sum(rt: HostRuntime) -> Result<(), Fail> {
     Ok(())
 }
 
+/// Blocks with a right trailer, whose content has no text.
+const NO_TEXTS: [&[u8]; 11] = [
+    b"\x02\x03005\r",
+    b"\x02123\rABC\x0316>\r",
+    b"\x02\r\r\r\x0302<\r",
+    b"\x02123\r\rABC\r\x03188\r",
+    b"\x02123\rA\x7F\r\x03175\r",
+    b"\x021\rA\nB\r\x030==\r",
+    b"\x02123\rA\x1A\r\x03110\r",
+    b"\x02123\rA\x1A!\r\x03131\r",
+    b"\x021\x1A\rA\r\x030:;\r",
+    b"\x021\x01\rA\r\x03092\r",
+    b"\x021\rA\x1AA\r\x030><\r",
+];
+
 /// No two fields, a field without a value, and a text that no alphanumeric page carries.
 #[test]
 fn a_content_without_a_text(rt: HostRuntime) -> Result<(), Fail> {
-    let table: [&[u8]; 11] = [
-        b"\x02\x03005\r",
-        b"\x02123\rABC\x0316>\r",
-        b"\x02\r\r\r\x0302<\r",
-        b"\x02123\r\rABC\r\x03188\r",
-        b"\x02123\rA\x7F\r\x03175\r",
-        b"\x021\rA\nB\r\x030==\r",
-        b"\x02123\rA\x1A\r\x03110\r",
-        b"\x02123\rA\x1A!\r\x03131\r",
-        b"\x021\x1A\rA\r\x030:;\r",
-        b"\x021\x01\rA\r\x03092\r",
-        b"\x021\rA\x1AA\r\x030><\r",
-    ];
-    let all = refused(rt.alloc(), &table, Status::BadText, 10, b"pocsag: text\n")?;
+    let all = refused(
+        rt.alloc(),
+        &NO_TEXTS,
+        Status::BadText,
+        10,
+        b"pocsag: text\n",
+    )?;
     assert!(rt; all);
     Ok(())
 }
@@ -255,35 +269,47 @@ fn the_longest_body_has_250_characters(rt: HostRuntime) -> Result<(), Fail> {
     Ok(())
 }
 
+/// A run over `one 8`: which take, which put on the output and which put on the error stream fails, the input, the status, and how
+/// many bytes the output got and what the error stream.
+type Failing = (
+    &'static [u64],
+    &'static [u64],
+    &'static [u64],
+    &'static [u8],
+    Status,
+    usize,
+    &'static [u8],
+);
+
+/// Runs over failing objects.
+const FAILING: [Failing; 6] = [
+    (
+        &[1],
+        &[],
+        &[],
+        ABC,
+        Status::InputFault,
+        0,
+        b"pocsag: input\n",
+    ),
+    (
+        &[3],
+        &[],
+        &[],
+        ABC,
+        Status::InputFault,
+        0,
+        b"pocsag: input\n",
+    ),
+    (&[1], &[], &[1], ABC, Status::OutFault, 0, b""),
+    (&[], &[1], &[], ABC, Status::OutFault, 0, b""),
+    (&[], &[2], &[], ABC, Status::OutFault, 72, b""),
+    (&[], &[], &[1], b"x", Status::OutFault, 0, b""),
+];
+
 #[test]
 fn a_failing_object_is_named(rt: HostRuntime) -> Result<(), Fail> {
-    let none: [u64; 0] = [];
-    // Which take, which put on out and which put on err fails, the status, and what out and err got.
-    let table: [(&[u64], &[u64], &[u64], &[u8], Status, usize, &[u8]); 6] = [
-        (
-            &[1],
-            &none,
-            &none,
-            ABC,
-            Status::InputFault,
-            0,
-            b"pocsag: input\n",
-        ),
-        (
-            &[3],
-            &none,
-            &none,
-            ABC,
-            Status::InputFault,
-            0,
-            b"pocsag: input\n",
-        ),
-        (&[1], &none, &[1], ABC, Status::OutFault, 0, b""),
-        (&none, &[1], &none, ABC, Status::OutFault, 0, b""),
-        (&none, &[2], &none, ABC, Status::OutFault, 72, b""),
-        (&none, &none, &[1], b"x", Status::OutFault, 0, b""),
-    ];
-    for (takes, puts, lines, block, status, size, line) in table {
+    for (takes, puts, lines, block, status, size, line) in FAILING {
         let mut input = MemorySource::new(rt.alloc(), block, 5, takes)?;
         let mut out = MemorySink::new(rt.alloc(), 140, puts)?;
         let mut err = MemorySink::new(rt.alloc(), 100, lines)?;
@@ -297,26 +323,28 @@ fn a_failing_object_is_named(rt: HostRuntime) -> Result<(), Fail> {
     Ok(())
 }
 
+/// Each status with its code.
+const CODES: [(Status, u8); 15] = [
+    (Status::Done, 0),
+    (Status::Usage, 2),
+    (Status::Settings, 3),
+    (Status::FileFault, 4),
+    (Status::WireFault, 5),
+    (Status::OutFault, 6),
+    (Status::InputFault, 7),
+    (Status::NotBlock, 8),
+    (Status::BadSum, 9),
+    (Status::BadText, 10),
+    (Status::TooLong, 11),
+    (Status::LogonRefused, 12),
+    (Status::SomeUnsent, 13),
+    (Status::Memory, 14),
+    (Status::BadPages, 15),
+];
+
 #[test]
 fn codes_of_statuses(rt: HostRuntime) {
-    let table = [
-        (Status::Done, 0u8),
-        (Status::Usage, 2),
-        (Status::Settings, 3),
-        (Status::FileFault, 4),
-        (Status::WireFault, 5),
-        (Status::OutFault, 6),
-        (Status::InputFault, 7),
-        (Status::NotBlock, 8),
-        (Status::BadSum, 9),
-        (Status::BadText, 10),
-        (Status::TooLong, 11),
-        (Status::LogonRefused, 12),
-        (Status::SomeUnsent, 13),
-        (Status::Memory, 14),
-        (Status::BadPages, 15),
-    ];
-    for (status, code) in table {
+    for (status, code) in CODES {
         assert_eq!(rt; status.code(), code);
     }
 }
