@@ -3,17 +3,11 @@
 #
 # The proved crates are copied into a workspace of their own, with a static library over `correct`, and are proved and built there.
 set -eu
-here=$(cd "$(dirname "$0")" && pwd)
-crates=$(cd "$here/../../crates" && pwd)
-work=$(mktemp -d)
-trap 'rm -rf "$work"' EXIT
+. "$(dirname -- "$0")/../workspace.sh"
 
+workspace bits bch31
 mkdir -p "$work/crates/correct_c/src"
-for name in bits bch31; do
-    mkdir "$work/crates/$name"
-    cp -r "$crates/$name/src" "$crates/$name/specs" "$crates/$name/proofs" "$work/crates/$name/"
-done
-printf 'bits:\nbch31: bits\ncorrect_c staticlib: bch31\n' >"$work/crates.txt"
+echo 'correct_c staticlib: bch31' >>"$work/crates.txt"
 cat >"$work/crates/correct_c/src/lib.rt" <<'RT'
 //! The correction, for the measuring program.
 #![tactic(auto)]

@@ -3,23 +3,11 @@
 #
 # The proved crates are copied into a workspace of their own, with a program over the reader, and are proved and built there.
 set -eu
-here=$(cd "$(dirname "$0")" && pwd)
-crates=$(cd "$here/../../crates" && pwd)
-work=$(mktemp -d)
-trap 'rm -rf "$work"' EXIT
+. "$(dirname -- "$0")/../workspace.sh"
 
+workspace bits bch31 codeword subscribers
 mkdir -p "$work/crates/measure/src"
-for name in bits bch31 codeword subscribers; do
-    mkdir "$work/crates/$name"
-    cp -r "$crates/$name/src" "$crates/$name/specs" "$crates/$name/proofs" "$work/crates/$name/"
-done
-cat >"$work/crates.txt" <<'TEXT'
-bits:
-bch31: bits
-codeword: bch31
-subscribers: codeword bch31 bits toml
-measure: subscribers codeword bch31 bits toml anyhow
-TEXT
+echo 'measure: subscribers codeword bch31 bits toml anyhow' >>"$work/crates.txt"
 cat >"$work/crates/measure/src/main.rt" <<'RT'
 //! Times the reading of settings files of 10 to 10,000 subscribers, and 1,000 look-ups of one id.
 #![tactic(auto)]

@@ -4,20 +4,11 @@
 #
 # The proved crates are copied into a workspace of their own, with a program over the terminal, and are proved and built there.
 set -eu
-here=$(cd "$(dirname "$0")" && pwd)
-crates=$(cd "$here/../../crates" && pwd)
-work=$(mktemp -d)
-trap 'rm -rf "$work"' EXIT
+. "$(dirname -- "$0")/../workspace.sh"
 
+workspace bits bch31 codeword wires page_text page_pool tap_block subscribers tap_terminal
 mkdir -p "$work/crates/measure/src"
-for name in bits bch31 codeword wires page_text page_pool tap_block subscribers tap_terminal; do
-    mkdir "$work/crates/$name"
-    cp -r "$crates/$name/src" "$crates/$name/specs" "$crates/$name/proofs" "$work/crates/$name/"
-done
-{
-    grep -E '^(bits|bch31|codeword|wires|page_text|page_pool|tap_block|subscribers|tap_terminal):' "$crates/../crates.txt"
-    echo 'measure: tap_terminal page_pool subscribers tap_block page_text codeword bch31 bits wires toml arrayvec anyhow'
-} >"$work/crates.txt"
+echo 'measure: tap_terminal page_pool subscribers tap_block page_text codeword bch31 bits wires toml arrayvec anyhow' >>"$work/crates.txt"
 cat >"$work/crates/measure/src/main.rt" <<'RT'
 //! Times sessions of nearly 1,000,000 characters of valid blocks, fed to the proved terminal.
 #![tactic(auto)]
