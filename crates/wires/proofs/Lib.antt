@@ -5,3 +5,9 @@ pub mod Opened
 pub mod Calls
 pub mod Exactly
 pub mod Stacked
+pub mod Ahead
+pub mod FakeShelf
+pub mod ExactShelf
+pub mod Noise
+pub mod Below
+pub mod ExactWire

@@ -2,9 +2,13 @@ pub mod Causes
 pub mod Held
 pub mod Written
 pub mod Left
+pub mod Ahead
 pub mod Line
 pub mod Files
 pub mod Silent
 pub mod Calls
 pub mod Fakes
+pub mod FakeShelf
+pub mod FakeWire
+pub mod Below
 pub mod Stacked

@@ -2,15 +2,21 @@
 ghost use Rattle.bits.specs.Bits.{bytes_bits, word_bits, words_bits};
 ghost use Rattle.std.specs.Prelude.{◌≡◌, ◌≢◌, ℕ, ◌+◌, ◌-◌, ◌*◌, ◌<◌, ◌≤◌, ◌^◌, List, [], ◌++◌, length, IfOk, IsFalse, IsOk, IsTrue, OnErr, OnOk};
 ghost use Rattle.wires.specs.Causes.{HasCause, Rose};
-ghost use Rattle.wires.specs.Files.{SameAt};
+ghost use Rattle.wires.specs.Below.{KeepsBeside, Speaks};
+ghost use Rattle.wires.specs.Files.{AppendsTo, SameAt, all_files};
+ghost use Rattle.wires.specs.Stacked.{noisy_bits};
 ghost use Rattle.wires.specs.Line.{wire_faults};
 ghost use Rattle.wires.specs.Written.{Appends, Puts};
 
 use crate::Failed;
-use crate::shelf::Shelf;
+use crate::byte_bits::ShelfBits;
+use crate::fake_shelf::MemoryShelf;
+use crate::shelf::{Appending, Shelf};
 use crate::sink::{BitSink, Sink, WordBytes};
-use crate::source::{BitSource, Source};
-use crate::wire::Wire;
+use crate::source::{BitSource, Noisy, Source};
+use crate::steps::{Steps, Work};
+use crate::wire::{Saying, Wire};
+use std::sync::ledger::Ledger;
 
 /// How copying ended.
 #[derive(Clone, Copy, Debug, PartialEq, Eq)]
@@ -106,6 +112,68 @@ pub fn holds_a_byte<F: Shelf>(shelf: &mut F, name: &str) -> Result<bool, Failed>
     Ok(shelf.read(name, 0, &mut buffer)? > 0)
 }
 
+/// Whether a file has a bit.
+pub fn has_a_bit<F: Shelf>(shelf: &mut F, name: &str) -> Result<bool, Failed>
+    ensures bit { IsTrue (F.state shelf.old).tells → IfOk result (λ some. IsFalse some → bytes_bits ((F.state shelf.old).file name.now) ≡ []) }
+    ensures files { all_files (F.state shelf.new) ≡ all_files (F.state shelf.old) }
+    ensures steady { IsTrue (F.state shelf.old).tells → IsTrue (F.state shelf.old).steady → IsTrue ((F.state shelf.old).there name.now)
+        → (F.state shelf.new).faults ≡ (F.state shelf.old).faults }
+    ensures cause { HasCause (F.state shelf.old).faults (F.state shelf.new).faults result }
+    ensures lent { (F.state shelf.new).lent ≡ (F.state shelf.old).lent }
+{
+    let mut bits = ShelfBits::over(shelf, name);
+    skip(&mut bits)
+}
+
+/// Appends words to a file.
+pub fn append_words<F: Shelf>(shelf: &mut F, name: &str, words: &[u32]) -> Result<(), Failed>
+    ensures bits { IsTrue (F.state shelf.old).tells → Appends (bytes_bits ((F.state shelf.old).file name.now)) (bytes_bits ((F.state shelf.new).file name.now)) (words_bits words.now) result }
+    ensures beside { KeepsBeside (F.state shelf.old) (F.state shelf.new) name.now }
+    ensures cause { HasCause (F.state shelf.old).faults (F.state shelf.new).faults result }
+{
+    let mut file = Appending::over(shelf, name);
+    words_over(&mut file, words)
+}
+
+/// Appends two pieces to a file.
+pub fn append_two<F: Shelf>(
+    shelf: &mut F,
+    name: &str,
+    first: &[u8],
+    second: &[u8],
+) -> Result<(), Failed>
+    ensures { AppendsTo (F.state shelf.old) (F.state shelf.new) name.now (first.now ++ second.now) result }
+{
+    let mut file = Appending::over(shelf, name);
+    put_two(&mut file, first, second)
+}
+
+/// Puts two pieces.
+fn put_two<K: Sink>(sink: &mut K, first: &[u8], second: &[u8]) -> Result<(), Failed>
+    ensures { Puts (K.state sink.old) (K.state sink.new) (first.now ++ second.now) result }
+{
+    sink.put(first)?;
+    sink.put(second)
+}
+
+/// Says two pieces on the open connection.
+pub fn say_two<W: Wire>(wire: &mut W, first: &[u8], second: &[u8]) -> Result<(), Failed>
+    ensures { Speaks (W.state wire.old) (W.state wire.new) (first.now ++ second.now) result }
+{
+    let mut open = Saying::over(wire);
+    put_two(&mut open, first, second)
+}
+
+/// Whether there is a bit with noise.
+pub fn skip_noisy<B: BitSource + Drop, N: BitSource>(bits: B, noise: &mut N) -> Result<bool, Failed>
+    ensures end { IsTrue (B.state bits).tells → IsTrue (N.state noise.old).tells
+        → IfOk result (λ some. IsFalse some → noisy_bits (B.state bits).left (N.state noise.old).left ≡ []) }
+    ensures lent { (N.state noise.new).lent ≡ (N.state noise.old).lent }
+{
+    let mut noisy = Noisy::over(bits, noise);
+    skip(&mut noisy)
+}
+
 /// Waits for a connection, answers what is heard first by one piece, and hangs up.
 pub fn answer_one<W: Wire>(wire: &mut W, at: &str, piece: &[u8]) -> Result<bool, Failed>
     ensures answered { IsTrue (W.state wire.old).tells → IfOk result (λ came. IsTrue came
@@ -137,4 +205,31 @@ pub fn ring<W: Wire>(wire: &mut W, at: &str) -> Result<(), Failed>
 {
     wire.dial(at)?;
     wire.hang_up()
+}
+
+/// The first byte, by at most one step.
+pub fn first_byte<L: Ledger>(bytes: &[u8], steps: &mut Steps<L>) -> Option<u8>
+    ensures cost { steps.new ≤ steps.old + 1 }
+{
+    let first = *bytes.first()?;
+    steps.tick();
+    Some(first)
+}
+
+/// The first byte of each of two texts, in a counter of its own.
+pub fn first_bytes(one: &[u8], two: &[u8]) -> (Option<u8>, Option<u8>, Steps<Work>)
+    ensures cost { result.2 ≤ 2 }
+{
+    let mut steps = Steps::new();
+    let first = first_byte(one, &mut steps);
+    let second = first_byte(two, &mut steps);
+    (first, second, steps)
+}
+
+/// Whether a file of a shelf in memory holds these bytes.
+pub fn holds(shelf: &MemoryShelf, name: &str, bytes: &[u8]) -> bool {
+    match shelf.bytes(name) {
+        Some(held) => held == bytes,
+        None => false,
+    }
 }

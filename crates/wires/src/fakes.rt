@@ -1,5 +1,5 @@
 //! A source and a sink in memory, which fail at the calls that they are told to.
-ghost use Rattle.std.specs.Prelude.{◌≡◌, ◌+◌, ◌<◌, ◌≤◌, [], length, min, nat_eq, take, IfOk};
+ghost use Rattle.std.specs.Prelude.{◌≡◌, ◌+◌, ◌<◌, ◌≤◌, ◌||◌, [], length, min, nat_eq, not, take, IfOk, IsFalse, IsTrue};
 ghost use Rattle.std.specs.List.{list_any};
 ghost use Rattle.wires.specs.Calls.{no_calls, next_fails};
 ghost use Rattle.wires.specs.Causes.{next_count};
@@ -63,6 +63,23 @@ impl Calls {
         ensures later { self.old.faults ≤ self.new.faults }
     {
         raise(&mut self.faults);
+    }
+
+    /// Counts a call, and a fault where the call is one that fails or is not proper. Says whether it is so.
+    pub(crate) fn fails_unless(&mut self, proper: bool) -> bool
+        ensures fails { result ≡ (next_fails self.old || not proper) }
+        ensures failing { self.new.failing ≡ self.old.failing }
+        ensures made { self.new.made ≡ next_count self.old.made }
+        ensures later { self.old.made ≤ self.new.made }
+        ensures counted { IsTrue result → self.new.faults ≡ next_count self.old.faults }
+        ensures kept { IsFalse result → self.new.faults ≡ self.old.faults }
+        ensures faults_later { self.old.faults ≤ self.new.faults }
+    {
+        let fails = self.next() || !proper;
+        if fails {
+            self.fault();
+        }
+        fails
     }
 }
 

@@ -17,11 +17,15 @@
 //! | module | what it holds |
 //! |---|---|
 //! | `source` | `Source` and `BitSource`, which bytes and bits are read from |
+//! | `byte_bits` | `ByteBits` and `ShelfBits`, the bits of a source's bytes and of a file's |
 //! | `sink` | `Sink` and `BitSink`, which bytes and words are written to, and `WordBytes`, words over a sink of bytes |
 //! | `wire` | `Wire`, connections one after another |
 //! | `shelf` | `Shelf`, files under names |
 //! | `fakes` | `MemorySource` and `MemorySink`, which fail at the calls that they are told to |
+//! | `fake_shelf` | `MemoryShelf`, a shelf in memory |
+//! | `fake_wire` | `MemoryWire`, a wire in memory |
 //! | `nothing` | `NoWire` and `NoShelf`, which fail at every call |
+//! | `steps` | `Steps`, a counter that contracts see and that takes no bytes, and `Work`, a ledger to count in |
 //!
 //! Callers that are generic over a trait join the clauses of calls one after another by the lemmas of `proofs/`:
 //! `Written` for writes, `Left` for reads, `Causes` for faults, `Opened` for connections.
@@ -30,16 +34,24 @@
 ghost use Rattle.std.specs.Prelude.{◌≡◌, ◌≤◌};
 ghost use Rattle.wires.specs.Causes.{next_count};
 
+pub mod byte_bits;
 #[cfg(test)]
 mod callers;
+pub mod fake_shelf;
+pub mod fake_wire;
 pub mod fakes;
+#[cfg(test)]
+mod file_tests;
 pub mod nothing;
 pub mod shelf;
 pub mod sink;
 pub mod source;
+pub mod steps;
 #[cfg(test)]
 mod tests;
 pub mod wire;
+#[cfg(test)]
+mod wire_tests;
 
 /// A fault of the outside: what was read from, written to or talked over did not do it.
 #[derive(Clone, Copy, Debug, PartialEq, Eq)]

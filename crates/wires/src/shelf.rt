@@ -1,8 +1,10 @@
-//! Where files stand.
-ghost use Rattle.std.specs.Prelude.{◌<◌, length};
+//! Where files stand, and one file as a sink.
+ghost use Rattle.std.specs.Prelude.{◌≡◌, ◌<◌, length};
 ghost use Rattle.wires.specs.Files.{AppendsTo, Files, Freshens, ReadsAt};
+ghost use Rattle.wires.specs.Stacked.{file_over};
 
 use crate::Failed;
+use crate::sink::Sink;
 
 /// Files under names.
 pub trait Shelf {
@@ -25,4 +27,31 @@ pub trait Shelf {
     /// answers. It is proper at a name that was made fresh, where the piece fits in the room left.
     fn append(&mut self, name: &str, piece: &[u8]) -> Result<(), Failed>
         ensures { AppendsTo (state self.old) (state self.new) name.now piece.now result };
+}
+
+/// One file of a shelf as a sink: each write is an `append`. Its content is the file's bytes, its room the file's, and
+/// its faults the shelf's. It is steady where the shelf is and the name was made fresh.
+#[derive(Drop)]
+pub struct Appending<'a, F: Shelf> {
+    shelf: &'a mut F,
+    name: &'a str,
+}
+
+impl<'a, F: Shelf> Appending<'a, F> {
+    /// The file of this name.
+    pub fn over(shelf: &'a mut F, name: &'a str) -> Appending<'a, F>
+        ensures same_reference { result.shelf.ghost_name ≡ shelf.entry.ghost_name }
+        ensures same { result.shelf.now ≡ shelf.old }
+        ensures name { result.name.now ≡ name.now }
+    {
+        Appending { shelf, name }
+    }
+}
+
+impl<'a, F: Shelf> Sink for Appending<'a, F> {
+    ghost state = { λ s. file_over s.shelf.ghost_name s.name.now (F.state s.shelf.now) };
+
+    fn put(&mut self, piece: &[u8]) -> Result<(), Failed> {
+        self.shelf.append(self.name, piece)
+    }
 }

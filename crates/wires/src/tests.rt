@@ -3,13 +3,15 @@ ghost use Rattle.std.specs.Prelude.{[], drop, true};
 ghost use Rattle.wires.specs.Silent.{silent_sink};
 
 use crate::callers::{
-    Copied, answer_one, copy, holds_a_byte, ring, skip, two_words, words_over, write_file,
+    Copied, answer_one, copy, first_byte, first_bytes, holds_a_byte, ring, skip, two_words,
+    words_over, write_file,
 };
 use crate::fakes::{MemorySink, MemorySource};
 use crate::nothing::{NoShelf, NoWire};
 use crate::shelf::Shelf;
 use crate::sink::{BitSink, Sink, WordBytes};
 use crate::source::{BitSource, Source};
+use crate::steps::{Steps, Work};
 use crate::wire::Wire;
 use crate::{Failed, Memory, raise};
 use std::test::Fail;
@@ -203,4 +205,14 @@ fn a_wire_that_is_not_there_fails_at_every_call(rt: HostRuntime) {
     assert_eq!(rt; wire.hang_up(), Err(Failed));
     assert_eq!(rt; answer_one(&mut wire, "a", b"b"), Err(Failed));
     assert_eq!(rt; ring(&mut wire, "a"), Err(Failed));
+}
+
+#[test]
+fn steps_take_no_bytes_and_change_nothing(rt: HostRuntime) {
+    let mut steps = Steps::<Work>::new();
+    assert_eq!(rt; first_byte(b"ab", &mut steps), Some(b'a'));
+    assert_eq!(rt; first_byte(b"", &mut steps), None);
+    let (first, second, _) = first_bytes(b"c", b"d");
+    assert_eq!(rt; (first, second), (Some(b'c'), Some(b'd')));
+    assert_eq!(rt; size_of::<Steps<Work>>(), 0);
 }

@@ -1,8 +1,10 @@
-//! Connections one after another.
-ghost use Rattle.std.specs.Prelude.{◌<◌, length};
+//! Connections one after another, and what is said on the open one as a sink.
+ghost use Rattle.std.specs.Prelude.{◌≡◌, ◌<◌, length};
 ghost use Rattle.wires.specs.Line.{Dials, HangsUp, Hears, Line, Listens, Opens, Says};
+ghost use Rattle.wires.specs.Stacked.{saying_over};
 
 use crate::Failed;
+use crate::sink::Sink;
 
 /// A line that waits for connections or dials them, one after another. It tells four counts: gate faults are those of
 /// `listen`, `next` and `dial`, hear faults those of `hear`, say faults those of `say`, hang faults those of `hang_up`.
@@ -41,4 +43,29 @@ pub trait Wire {
     /// Closes the open connection, also where it answers `Failed`. It is proper while a connection is open.
     fn hang_up(&mut self) -> Result<(), Failed>
         ensures { HangsUp (state self.old) (state self.new) result };
+}
+
+/// What is said on the open connection as a sink: each write is a `say`. Its content is the bytes said there, its room
+/// the connection's, and its faults the wire's say faults. It is steady where the wire is and a connection is open.
+#[derive(Drop)]
+pub struct Saying<'a, W: Wire> {
+    wire: &'a mut W,
+}
+
+impl<'a, W: Wire> Saying<'a, W> {
+    /// The open connection of this wire.
+    pub fn over(wire: &'a mut W) -> Saying<'a, W>
+        ensures same_reference { result.wire.ghost_name ≡ wire.entry.ghost_name }
+        ensures same { result.wire.now ≡ wire.old }
+    {
+        Saying { wire }
+    }
+}
+
+impl<'a, W: Wire> Sink for Saying<'a, W> {
+    ghost state = { λ s. saying_over s.wire.ghost_name (W.state s.wire.now) };
+
+    fn put(&mut self, piece: &[u8]) -> Result<(), Failed> {
+        self.wire.say(piece)
+    }
 }
