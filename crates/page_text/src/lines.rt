@@ -67,7 +67,7 @@ fn push_digits(number: u32, line: &mut ArrayVec<u8, LINE>)
 }
 
 /// The seven lowest decimal digits of a number, the highest first.
-fn digits(number: u32) -> [u8; DIGITS]
+pub fn digits(number: u32) -> [u8; 7]
     ensures { result ≡ decimal_digits 7 number }
 {
     [
@@ -129,7 +129,7 @@ fn push_pair(c: u8, line: &mut ArrayVec<u8, LINE>)
 }
 
 /// A hexadecimal digit, in capitals.
-fn hex_digit(n: u8) -> u8
+pub fn hex_digit(n: u8) -> u8
     requires { n < 16 }
     ensures { result ≡ hex_digit_of n }
 {
