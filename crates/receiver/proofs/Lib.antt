@@ -1,0 +1,13 @@
+pub mod Capcodes
+pub mod FrontSteps
+pub mod Fronts
+pub mod Heard
+pub mod Hunts
+pub mod Listens
+pub mod Locks
+pub mod Pages
+pub mod Registers
+mod Rows
+pub mod Slots
+pub mod Stretches
+pub mod Windows

@@ -1,0 +1,55 @@
+-- Where a front end, a hunt or a lock, is in the bits that it was fed.
+use Rattle.std.specs.Prelude.{◌≡◌, ℕ, Bool, List, [], ◌++◌, Option, Some, None}
+use Rattle.receiver.specs.Stretches.{stretches, after_sync, words_of}
+use Rattle.receiver.specs.Slots.{slots_of}
+use Rattle.receiver.specs.Locks.{Lock, Hunts, Holds}
+use Rattle.receiver.specs.Heard.{HeardPage}
+use Rattle.receiver.specs.UnderWay.{open_from}
+use Rattle.receiver.specs.declared.front.Front.{Front}
+use Rattle.receiver.specs.declared.front.Front.TheVariants.{Hunt, Lock as Locking}
+
+-- The bits end where a lock was lost, or are none. These are their stretches, and what follows gives its own.
+pub record IsPast (past : List Bool) (before : List (List ℕ)) : Type 0 where
+  pub all : (more : List Bool) → stretches (past ++ more) ≡ before ++ stretches more
+
+-- the bits end in this hunt, which follows these stretches
+pub record HuntsAt (hunting : List Bool) (bits : List Bool) (before : List (List ℕ)) : Type 0 where
+  pub past : List Bool
+  pub piece : List Bool
+  pub whole : bits ≡ past ++ piece
+  pub earlier : IsPast past before
+  pub hunts : Hunts hunting piece
+
+-- the bits end in this lock, which follows these stretches and has these words so far
+pub record LocksAt (locked : Lock) (bits : List Bool) (before : List (List ℕ)) (words : List ℕ) : Type 0 where
+  pub past : List Bool
+  pub window : List Bool
+  pub rest : List Bool
+  pub whole : bits ≡ past ++ (window ++ rest)
+  pub earlier : IsPast past before
+  pub found : after_sync window ≡ Some []
+  pub holds : Holds locked rest
+  pub words-is : words ≡ words_of rest
+
+-- the bits end in this hunt or lock, which follows these stretches, and a lock has these words so far
+abbrev pub IsAt : Front → List Bool → List (List ℕ) → Option (List ℕ) → Type 0
+IsAt (Hunt hunting) bits before words = HuntsAt hunting bits before × (words ≡ None)
+IsAt (Locking locked) bits before words = (lock_words : List ℕ) × LocksAt locked bits before lock_words × (words ≡ Some lock_words)
+
+-- the page under way in the words of a lock
+abbrev pub page_under_way : (ℕ → Bool) → Option (List ℕ) → Option HeardPage
+page_under_way listens None = None
+page_under_way listens (Some words) = open_from listens 0 (slots_of words)
+
+-- the front end was fed these bits
+pub record FrontStandsFor (front : Front) (bits : List Bool) : Type 0 where
+  pub before : List (List ℕ)
+  pub words : Option (List ℕ)
+  pub at : IsAt front bits before words
+
+-- the front end was fed these bits, and this page is under way at their end
+pub record HasUnderWay (listens : ℕ → Bool) (front : Front) (page : Option HeardPage) (bits : List Bool) : Type 0 where
+  pub before : List (List ℕ)
+  pub words : Option (List ℕ)
+  pub at : IsAt front bits before words
+  pub page-is : page ≡ page_under_way listens words

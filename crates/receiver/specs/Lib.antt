@@ -1,0 +1,12 @@
+pub mod FrontSteps
+pub mod Fronts
+pub mod Gathering
+pub mod Heard
+pub mod Listeners
+pub mod Locks
+pub mod Registers
+pub mod Slots
+pub mod Steps
+pub mod Stretches
+pub mod UnderWay
+pub mod Windows

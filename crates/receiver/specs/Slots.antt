@@ -1,0 +1,44 @@
+-- The slots of a stretch of lock, and the table of what was heard.
+use Rattle.std.specs.Prelude.{ℕ, suc, ◌%◌, Bool, true, false, List, [], ◌∷◌, length, flat_map}
+use Rattle.receiver.specs.Stretches.{is_sync_place, stretches}
+
+-- a word at a sync place or not, and the slots behind it
+abbrev pub slots_with : Bool → ℕ → List ℕ → List ℕ
+slots_with false word later = word ∷ later
+slots_with true word later = later
+
+-- the slots among the words of a stretch, from the number k on: those at no sync place
+unfoldable pub slots_from : ℕ → List ℕ → List ℕ
+slots_from k [] = []
+slots_from k (word ∷ words) = slots_with (is_sync_place k) word (slots_from (suc k) words)
+
+-- the slots of a stretch
+abbrev pub slots_of : List ℕ → List ℕ
+slots_of words = slots_from 0 words
+
+-- how many slots are heard in the bits
+abbrev pub slots_in : List Bool → ℕ
+slots_in bits = length (flat_map slots_of (stretches bits))
+
+-- a line of the table: a sync word that was found or was good at its place, or a slot with its place from 0 to 15 and its word as heard
+pub data Entry : Type 0 where
+  Batch : Entry
+  Slot : ℕ → ℕ → Entry
+
+-- the entry of a word at a sync place or not
+abbrev pub entry_with : Bool → ℕ → ℕ → Entry
+entry_with false place word = Slot place word
+entry_with true place word = Batch
+
+-- the entries of the words of a stretch, from the number k on
+unfoldable pub entries_from : ℕ → List ℕ → List Entry
+entries_from k [] = []
+entries_from k (word ∷ words) = entry_with (is_sync_place k) (k % 17) word ∷ entries_from (suc k) words
+
+-- the entries of a stretch: the sync word that was found, and its words
+abbrev pub stretch_entries : List ℕ → List Entry
+stretch_entries words = Batch ∷ entries_from 0 words
+
+-- the table of what is heard in the bits
+abbrev pub entries : List Bool → List Entry
+entries bits = flat_map stretch_entries (stretches bits)

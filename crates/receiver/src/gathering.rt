@@ -1,0 +1,135 @@
+//! The page under way, and the page that the last bit completed: docs/profile.md, "page heard".
+
+ghost use Rattle.std.specs.Prelude.{◌≡◌, ℕ, Bool, None, Some, IfSome, IsSome, ◌≤◌, ◌<◌, ◌^◌, length, take};
+ghost use Rattle.codeword.specs.Kinds.{IsSmall};
+ghost use Rattle.page_text.specs.Texts.{text_of};
+ghost use Rattle.receiver.specs.UnderWay.{open_after, completed};
+ghost use Rattle.receiver.specs.Listeners.{answer_of, ready_pages};
+ghost use Rattle.receiver.specs.Gathering.{IsOurs, begun};
+
+use crate::ready::Ready;
+use codeword::{Capcode, Function, WordKind};
+use page_text::TextReader;
+use std::marker::Model;
+
+/// The page under way and its groups. Where the last bit completed a page, the groups are those of that page, and the page under way has
+/// none.
+#[derive(Drop)]
+pub struct Gathering {
+    page: Option<Ready>,
+    ready: Option<Ready>,
+    groups: TextReader,
+}
+
+impl Model for Gathering {
+    ghost use Rattle.receiver.specs.Listeners.{Gathered, gathered_of};
+
+    ghost Value = { Gathered };
+
+    ghost view = { λ g. gathered_of g.page g.ready g.groups };
+}
+
+impl Gathering {
+    /// No page.
+    pub fn new() -> Gathering
+        ensures { result ≡ record { under_way = None; ready = None } }
+    {
+        Gathering {
+            page: None,
+            ready: None,
+            groups: TextReader::new(),
+        }
+    }
+
+    /// Forgets the page that the last bit completed.
+    #[inline(always)]
+    pub fn forget(&mut self)
+        ensures ready { self.new.ready ≡ None }
+        ensures page { self.new.under_way ≡ self.old.under_way }
+    {
+        if self.ready.is_some() {
+            self.ready = None;
+            self.groups.start();
+        }
+    }
+
+    /// The page under way ends unreported.
+    #[inline(always)]
+    pub fn close(&mut self)
+        ensures ready { self.new.ready ≡ self.old.ready }
+        ensures page { self.new.under_way ≡ None }
+    {
+        self.page = None;
+    }
+
+    /// Takes what the word of a slot says, and the capcode of an address word that is listened to. Answers the page that it completes.
+    pub fn slot(
+        &mut self,
+        place: u32,
+        kind: Option<WordKind>,
+        ours: Option<Capcode>,
+    ) -> Option<Ready>
+        requires none_ready { self.old.ready ≡ None }
+        requires small { IfSome kind IsSmall }
+        ensures page { (listens : ℕ → Bool) → IsOurs listens place kind ours → self.new.under_way ≡ open_after listens place self.old.under_way kind }
+        ensures ready { completed self.old.under_way kind ≡ ready_pages self.new.ready }
+        ensures answer { result ≡ answer_of self.new.ready }
+    {
+        let Some(said) = kind else {
+            self.close();
+            return None;
+        };
+        match said {
+            WordKind::Message { group } => {
+                self.push(group);
+                None
+            }
+            WordKind::Address { high: _, function } => {
+                self.begin(function, ours);
+                self.ready
+            }
+        }
+    }
+
+    /// Begins a page, where the capcode is listened to. The page under way until now is complete.
+    fn begin(&mut self, function: Function, ours: Option<Capcode>)
+        requires none_ready { self.old.ready ≡ None }
+        ensures page { self.new.under_way ≡ begun function ours }
+        ensures ready { self.new.ready ≡ self.old.under_way }
+    {
+        self.ready = self.page;
+        if self.ready.is_none() {
+            self.groups.start();
+        }
+        self.page = match ours {
+            Some(capcode) => Some(Ready { capcode, function }),
+            None => None,
+        };
+    }
+
+    /// Adds a group to the page under way. The 141st ends it.
+    fn push(&mut self, group: u32)
+        requires none_ready { self.old.ready ≡ None }
+        requires small { group < 2 ^ 20 }
+        ensures page { (listens : ℕ → Bool) (place : ℕ) → self.new.under_way ≡ open_after listens place self.old.under_way (Some (WordKind.Message group)) }
+        ensures ready { self.new.ready ≡ None }
+    {
+        if self.page.is_some() && !self.groups.push(group) {
+            self.page = None;
+        }
+    }
+
+    /// Writes the text of the page that the last bit completed to the front of `into`, and answers its length.
+    pub fn text(&self, into: &mut [u8]) -> usize
+        requires ready { IsSome self.now.ready }
+        requires room { 700 ≤ length into.old }
+        ensures text { IfSome self.now.ready (λ page. take result into.new ≡ text_of page.function page.groups) }
+        ensures length { IfSome self.now.ready (λ page. result ≡ length (text_of page.function page.groups)) }
+        ensures few { result ≤ 700 }
+    {
+        match self.ready {
+            Some(page) => self.groups.text(page.function, into),
+            None => 0,
+        }
+    }
+}

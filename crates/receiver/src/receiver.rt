@@ -1,0 +1,113 @@
+//! A receiver of one capcode: docs/profile.md, "page heard".
+
+ghost use Rattle.std.specs.Prelude.{◌≡◌, ℕ, ◌≤◌, ◌<◌, [], ◌∷◌, ◌++◌, Bool, IfSome, IsSome, List, None, length, take};
+ghost use Rattle.codeword.specs.Kinds.{IsSmall};
+ghost use Rattle.page_text.specs.Texts.{text_of};
+ghost use Rattle.receiver.specs.Gathering.{IsOurs};
+ghost use Rattle.receiver.specs.Listeners.{is_one_of};
+
+use crate::front::{Front, FrontStep};
+use crate::gathering::Gathering;
+use crate::ready::Ready;
+use codeword::{Capcode, WordKind, kind};
+use std::marker::Model;
+use std::mem;
+
+/// A receiver of one capcode, fed bit by bit.
+#[derive(Drop)]
+pub struct Receiver {
+    front: Front,
+    capcode: Capcode,
+    gathering: Gathering,
+}
+
+impl Model for Receiver {
+    ghost use Rattle.std.specs.Prelude.{[], ◌∷◌};
+    ghost use Rattle.receiver.specs.Listeners.{Listener, listener_of};
+
+    ghost Value = { Listener };
+
+    ghost view = { λ r. listener_of r.front (r.capcode ∷ []) r.gathering };
+}
+
+impl Receiver {
+    ghost use Rattle.receiver.specs.Listeners.{StandsFor, answer_of, ready_pages};
+    ghost use Rattle.receiver.specs.Heard.{heard};
+
+    /// A receiver that was fed no bit.
+    pub fn new(capcode: Capcode) -> Receiver
+        ensures capcodes { result.capcodes ≡ capcode ∷ [] }
+        ensures ready { result.ready ≡ None }
+        ensures stands { StandsFor result [] }
+    {
+        Receiver {
+            front: Front::new(),
+            capcode,
+            gathering: Gathering::new(),
+        }
+    }
+
+    /// Takes the next bit. Answers the page that it completes, and None exactly where it completes none.
+    pub fn feed(&mut self, bit: bool) -> Option<Ready>
+        ensures capcodes { self.new.capcodes ≡ self.old.capcodes }
+        ensures stands { (bits : List Bool) → StandsFor self.old bits → StandsFor self.new (bits ++ bit ∷ []) }
+        ensures page { (bits : List Bool) → StandsFor self.old bits
+            → heard (is_one_of self.old.capcodes) (bits ++ bit ∷ []) ≡ heard (is_one_of self.old.capcodes) bits ++ ready_pages self.new.ready }
+        ensures answer { result ≡ answer_of self.new.ready }
+    {
+        self.gathering.forget();
+        let front = mem::replace(&mut self.front, Front::new());
+        match front.feed(bit) {
+            FrontStep::Still(front) => {
+                self.front = front;
+                None
+            }
+            FrontStep::Batch(front) => {
+                self.front = front;
+                None
+            }
+            FrontStep::Lost(front) => {
+                self.front = front;
+                self.gathering.close();
+                None
+            }
+            FrontStep::Slot(front, place, word) => {
+                self.front = front;
+                let kind = kind(word);
+                let ours = match_own(self.capcode, place, kind);
+                self.gathering.slot(place, kind, ours)
+            }
+        }
+    }
+
+    /// Writes the text of the page that the last `feed` answered to the front of `into`, which has at least 700 bytes, and answers its
+    /// length. What stands behind the text in `into` is open.
+    pub fn text(&self, into: &mut [u8]) -> usize
+        requires ready { IsSome self.now.ready }
+        requires room { 700 ≤ length into.old }
+        ensures text { IfSome self.now.ready (λ page. take result into.new ≡ text_of page.function page.groups) }
+        ensures length { IfSome self.now.ready (λ page. result ≡ length (text_of page.function page.groups)) }
+        ensures few { result ≤ 700 }
+    {
+        self.gathering.text(into)
+    }
+}
+
+/// The capcode, where the word in this slot is an address word of it.
+fn match_own(own: Capcode, place: u32, kind: Option<WordKind>) -> Option<Capcode>
+    requires place { place < 16 }
+    requires small { IfSome kind IsSmall }
+    ensures { IsOurs (is_one_of (own ∷ [])) place kind result }
+{
+    let said = kind?;
+    match said {
+        WordKind::Address { high, function: _ } => {
+            if 8 * high + place / 2 == own.number() {
+                Some(own)
+            } else {
+                None
+            }
+        }
+        WordKind::Message { group: _ } => None,
+    }
+}

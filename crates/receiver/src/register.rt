@@ -1,0 +1,74 @@
+//! The last bits that came.
+
+ghost use Rattle.std.specs.Prelude.{◌≡◌, ◌↔◌, ◌≤◌, ◌++◌, [], ◌∷◌, IsTrue, length};
+ghost use Rattle.bits.specs.Bits.{number};
+ghost use Rattle.receiver.specs.Registers.{last_32};
+
+use std::marker::Model;
+
+/// The bits of a word.
+const WORD_BITS: u32 = 32;
+
+/// The last bits that came, at most 32.
+#[derive(Drop)]
+pub struct Register {
+    bits: u32,
+    count: u32,
+}
+
+impl Model for Register {
+    ghost use Rattle.std.specs.Prelude.{List, Bool, ◌≤◌};
+    ghost use Rattle.bits.specs.Bits.{bits_of};
+
+    ghost Value = { List Bool };
+
+    ghost view = { λ r. bits_of r.count r.bits };
+
+    ghost invariant = { λ r. r.count ≤ 32 };
+}
+
+impl Register {
+    /// Holds no bit.
+    #[inline(always)]
+    pub fn new() -> Register
+        ensures { result ≡ [] }
+    {
+        Register { bits: 0, count: 0 }
+    }
+
+    /// Takes one more bit. Of 33 the first goes.
+    #[inline(always)]
+    pub fn push(self, bit: bool) -> Register
+        ensures { result ≡ last_32 (self ++ bit ∷ []) }
+    {
+        let bits = (self.bits << 1) | u32::from(bit);
+        if self.count < WORD_BITS {
+            Register {
+                bits,
+                count: self.count + 1,
+            }
+        } else {
+            Register {
+                bits,
+                count: WORD_BITS,
+            }
+        }
+    }
+
+    /// Whether it holds 32 bits.
+    #[inline(always)]
+    pub fn is_full(&self) -> bool
+        ensures { IsTrue result ↔ (32 ≤ length self.now) }
+    {
+        self.count == WORD_BITS
+    }
+
+    /// The word that its 32 bits make.
+    #[inline(always)]
+    pub fn word(&self) -> u32
+        requires { length self.now ≡ 32 }
+        ensures { result ≡ number self.now }
+    {
+        self.bits
+    }
+}
