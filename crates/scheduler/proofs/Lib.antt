@@ -4,5 +4,12 @@ pub mod Unique
 pub mod Lays
 pub mod Room
 pub mod Schedules
-pub mod OnePage
+pub mod Rest
+pub mod Said
+pub mod Live
+pub mod Giving
+pub mod Cases
+pub mod Given
+pub mod Ended
+pub mod Standing
 mod Rows

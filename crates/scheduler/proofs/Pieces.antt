@@ -1,5 +1,5 @@
 -- The words, the pages and the place of pieces.
-use Rattle.std.proofs.Common.{◌≡◌, ℕ, zero, suc, ◌+◌, List, [], ◌∷◌, ◌++◌, length, replicate, refl, sym, ◌∙◌, ap, append_assoc, length-append}
+use Rattle.std.proofs.Common.{◌≡◌, ◌+◌, List, [], ◌∷◌, ◌++◌, length, refl, sym, ◌∙◌, ap, append_assoc, length-append}
 use Rattle.codeword.specs.declared.words.TheConstants.{IDLE}
 use Rattle.page_text.specs.Page.{Page}
 use Rattle.scheduler.specs.Slots.{Piece, Idle, Run, run, words, pages, place}
@@ -24,13 +24,3 @@ place-append xs ys = ap length (words-append xs ys) ∙ length-append (words xs)
 -- the place after a run
 pub place-run : (page : Page) (rest : List Piece) → place (Run page ∷ rest) ≡ length (run page) + place rest
 place-run page rest = length-append (run page) (words rest)
-
--- idle pieces give idle words
-pub words-idle_append : (k : ℕ) (rest : List Piece) → words (replicate k Idle ++ rest) ≡ replicate k IDLE ++ words rest
-words-idle_append zero rest = refl
-words-idle_append (suc k) rest = ap (λ w. IDLE ∷ w) (words-idle_append k rest)
-
--- the same with nothing after them
-pub words-idle : (k : ℕ) → words (replicate k Idle) ≡ replicate k IDLE
-words-idle zero = refl
-words-idle (suc k) = ap (λ w. IDLE ∷ w) (words-idle k)

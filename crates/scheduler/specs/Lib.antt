@@ -1,4 +1,6 @@
 pub mod Slots
 pub mod Plan
 pub mod Laws
-pub mod OnePage
+pub mod Said
+pub mod Sendings
+pub mod Pooled

@@ -45,3 +45,12 @@ pieces_of accepted = some_pieces (room 0 accepted true) 0 accepted true
 
 abbrev pub slots_of : List Page → List ℕ
 slots_of accepted = words (pieces_of accepted)
+
+-- the pieces from a place on, while these pages wait
+unfoldable pub pieces_from : ℕ → List Page → Bool → List Piece
+pieces_from start waiting idle = some_pieces (room start waiting idle) start waiting idle
+
+-- the pages that wait still when the runs of some were given, each of them the first of its frame
+abbrev pub still : List Page → List Page → List Page
+still [] waiting = waiting
+still (page ∷ given) waiting = still given (without_first (frame page) waiting)
