@@ -1,12 +1,8 @@
 -- Batches one after another.
-use Rattle.std.proofs.Common.{◌≡◌, ℕ, zero, suc, ◌+◌, ◌-◌, ◌*◌, ◌/◌, ◌<◌, ◌≤◌, List, ◌∷◌, ◌++◌, length, take, drop, refl, sym, ◌∙◌, ap, arith, add-one, append_assoc, append-nil, length-append, zero-add}
+use Rattle.std.proofs.Common.{◌≡◌, ℕ, zero, suc, ◌+◌, ◌-◌, ◌*◌, ◌<◌, ◌≤◌, List, ◌∷◌, ◌++◌, length, take, drop, refl, sym, ◌∙◌, ap, arith, append_assoc, append-nil, length-append, zero-add}
 use Rattle.std.proofs.lemmas.List.{drop-drop, length-take-le, length-drop}
 use Rattle.codeword.specs.declared.words.TheConstants.{SYNC}
-use Rattle.page_text.specs.Page.{Page}
-use Rattle.scheduler.specs.Slots.{frame, run}
-use Rattle.scheduler.specs.OnePage.{batches_of_one, slots_of_one}
-use Rattle.scheduler.proofs.OnePage.{length-slots_of_one}
-use Rattle.air.specs.Air.{batches, preamble, transmission}
+use Rattle.air.specs.Air.{batches}
 
 -- the last of some batches, counted from 0
 pub batches-last : (k : ℕ) (slots : List ℕ) → batches (suc k) slots ≡ batches k slots ++ SYNC ∷ take 16 (drop (16 * k) slots)
@@ -18,10 +14,6 @@ batches-last (suc k) slots =
     (batches-last k (drop 16 slots)
     ∙ ap (λ rest. batches k (drop 16 slots) ++ SYNC ∷ take 16 rest) (drop-drop (16 * k) 16 slots ∙ ap (λ d. drop d slots) e))
     ∙ ap (λ words. SYNC ∷ words) (sym (append_assoc (take 16 slots) (batches k (drop 16 slots)) (SYNC ∷ take 16 (drop (16 * suc k) slots))))
-
--- one batch more
-pub batches-more : (k : ℕ) (slots : List ℕ) → batches (k + 1) slots ≡ batches k slots ++ SYNC ∷ take 16 (drop (16 * k) slots)
-batches-more k slots = ap (λ n. batches n slots) (add-one k) ∙ batches-last k slots
 
 -- a batch has 17 words
 pub length-batches : (n : ℕ) (slots : List ℕ) → 16 * n ≤ length slots → length (batches n slots) ≡ 17 * n
@@ -35,15 +27,6 @@ length-batches (suc n) slots l =
       length-take-le 16 slots (omega (arith, l)),
       length-batches n (drop 16 slots) (omega (arith, l, length-drop 16 slots)),
     )
-
--- the words of a transmission of one page
-pub transmission-one_page : (page : Page)
-    → transmission (slots_of_one page) ≡ preamble ++ batches (batches_of_one (frame page) (length (run page))) (slots_of_one page)
-transmission-one_page page =
-    ap (λ n. preamble ++ batches n (slots_of_one page)) (whole (batches_of_one (frame page) (length (run page))) (length-slots_of_one page))
-  where
-    whole : (n : ℕ) {l : ℕ} → l ≡ 16 * n → l / 16 ≡ n
-    whole n e = omega (arith, e)
 
 -- some batches, and those behind them
 pub batches-add : (a b : ℕ) (slots : List ℕ) → batches (a + b) slots ≡ batches a slots ++ batches b (drop (16 * a) slots)

@@ -1,1 +1,5 @@
 pub mod Air
+pub mod Near
+pub mod Sends
+pub mod Left
+pub mod Readers

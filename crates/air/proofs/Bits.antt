@@ -1,0 +1,56 @@
+-- The bits of a transmission, one at a time.
+use Rattle.std.proofs.Common.{◌≡◌, ◌≢◌, ℕ, ◌-◌, ◌/◌, ◌%◌, ◌^◌, ◌==◌, Bool, List, [], ◌∷◌, Ok, Some, None, refl, ◌∙◌, ap, ap₂, arith}
+use Rattle.std.specs.Borrow.{GName}
+use Rattle.bits.specs.Bits.{words_bits}
+use Rattle.page_text.specs.Page.{Page}
+use Rattle.page_pool.specs.Pool.{Pool}
+use Rattle.wires.specs.declared.Failed.{Failed}
+use Rattle.wires.specs.Held.{Lent}
+use Rattle.wires.specs.Left.{TakesOne}
+use Rattle.wires.proofs.Ahead.{goes_on, none_pending}
+use Rattle.air.specs.Air.{IsAir}
+use Rattle.air.specs.Left.{air_bits, bits_to_come, words_to_come, AreWords}
+use Rattle.air.specs.declared.order.Order.{Order}
+
+-- the bits of the words of a transmission
+pub air_words : (accepted : List Page) (words : List ℕ) → AreWords accepted words → IsAir accepted (words_bits words)
+air_words [] words are = ap words_bits are
+air_words (page ∷ accepted) words are = (are.0, are.1, ap words_bits are.2)
+
+module _ (p n p' n' : ℕ) (s s' : Order) (w w' : Pool) (a b c d : GName) (pool : c ≡ a) (steps : d ≡ b) where
+  -- a bit came out
+  pub takes_bit : (bit : Bool) → bits_to_come p n s w ≡ bit ∷ bits_to_come p' n' s' w'
+      → TakesOne {E = Failed} (air_bits p n s w a b) (air_bits p' n' s' w' c d) (Ok (Some bit))
+  takes_bit bit e = record {
+    tells = refl;
+    left = λ t. e;
+    steady = λ t u. (refl, refl);
+    faults = record { later = omega arith; failed = tt; kept = refl };
+    lent = ap₂ (λ (x y : GName). Lent x ∷ Lent y ∷ []) pool steps;
+  }
+
+  -- none was left
+  pub takes_none : bits_to_come p n s w ≡ [] → bits_to_come p' n' s' w' ≡ []
+      → TakesOne {E = Failed} (air_bits p n s w a b) (air_bits p' n' s' w' c d) (Ok None)
+  takes_none e h = record {
+    tells = refl;
+    left = λ t. (e, h);
+    steady = λ t u. (refl, refl);
+    faults = record { later = omega arith; failed = tt; kept = refl };
+    lent = ap₂ (λ (x y : GName). Lent x ∷ Lent y ∷ []) pool steps;
+  }
+
+-- without words no bit is left
+pub bits-none : (p n : ℕ) (s : Order) (w : Pool) → p ≡ 0 → words_to_come s w ≡ [] → bits_to_come p n s w ≡ []
+bits-none p n s w z e = none_pending p n (words_bits (words_to_come s w)) z ∙ ap words_bits e
+
+-- the first bit of the next word
+pub bits-word : (p n : ℕ) (s s' : Order) (w w' : Pool) (word : ℕ) → p ≡ 0 → words_to_come s w ≡ word ∷ words_to_come s' w'
+    → bits_to_come p n s w ≡ (word / 2147483648 % 2 == 1) ∷ bits_to_come 31 word s' w'
+bits-word p n s s' w w' word z e =
+    none_pending p n (words_bits (words_to_come s w)) z ∙ ap words_bits e
+    ∙ goes_on 32 word (words_bits (words_to_come s' w')) (λ h. absurd (omega (arith, h)))
+
+-- the next bit of the word that was begun
+pub bits-bit : (p n : ℕ) (s : Order) (w : Pool) → p ≢ 0 → bits_to_come p n s w ≡ (n / 2 ^ (p - 1) % 2 == 1) ∷ bits_to_come (p - 1) n s w
+bits-bit p n s w z = goes_on p n (words_bits (words_to_come s w)) z
