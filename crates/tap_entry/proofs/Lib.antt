@@ -1,0 +1,16 @@
+pub mod Cutting
+pub mod Ears
+pub mod Counts
+pub mod Steps
+pub mod Rows
+pub mod Contents
+pub mod Texts
+pub mod PageLines
+pub mod FirstLines
+pub mod Files
+pub mod OneCut
+pub mod FirstMarks
+pub mod OneClient
+pub mod SomeClient
+pub mod OneFile
+pub mod FileRows

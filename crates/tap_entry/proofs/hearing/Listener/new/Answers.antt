@@ -1,0 +1,5 @@
+use Rattle.tap_entry.proofs.Ears.{stands_nil}
+use Rattle.tap_entry.proofs.hearing.Listener.new.Goals as goal
+
+pub returns : goal.returns
+returns c = rw c.new.ensures stands_nil
