@@ -1,6 +1,7 @@
 -- What a run does, command by command and status by status.
 use Rattle.std.specs.Prelude.{◌≡◌, ℕ, ◌≤◌, length, Bool, true, false, List, [], ◌∷◌, Option, Some, None, IsTrue}
 use Rattle.air.specs.Air.{IsAir}
+use Rattle.bits.specs.Bits.{bytes_bits}
 use Rattle.tap_block.specs.Chars.{characters}
 use Rattle.wires.specs.Causes.{Rose}
 use Rattle.wires.specs.Files.{Files}
@@ -8,11 +9,20 @@ use Rattle.wires.specs.Left.{Left, Took}
 use Rattle.wires.specs.Line.{Line}
 use Rattle.wires.specs.Written.{Written}
 use Rattle.station.specs.declared.statuses.Status.{Status}
-use Rattle.station.specs.declared.statuses.Status.TheVariants.{BadPages, BadSum, BadText, Done, InputFault, NotBlock, OutFault, Settings, Usage}
+use Rattle.station.specs.declared.statuses.Status.TheVariants.{BadSum, BadText, Done, InputFault, Memory, NotBlock, OutFault, Usage}
 use Rattle.station.specs.AlphaPage.{alpha_page}
-use Rattle.station.specs.Commands.{AreCommand, Command, One}
+use Rattle.station.specs.Commands.{AreCommand, Command, One, Play, Send, Show, Station, Trial}
+use Rattle.station.specs.HeardFile.{HearsFile, Plays}
 use Rattle.station.specs.LoneBlock.{HasText, IsLoneBlock, IsMarkedBlock}
-use Rattle.station.specs.Statuses.{line_of}
+use Rattle.station.specs.PageLines.{play_lines}
+use Rattle.station.specs.Promises.{HearNear, StationPromise, TrialPromise}
+use Rattle.station.specs.Outcomes.{TellsOutcome}
+use Rattle.station.specs.declared.outcomes.Outcome.{Outcome}
+use Rattle.station.specs.declared.outcomes.Outcome.TheVariants.{Ended, Misread, Refused}
+use Rattle.station.specs.SendRows.{SendRow}
+use Rattle.station.specs.Serving.{Around}
+use Rattle.station.specs.StationRows.{StationRow, TrialRow}
+use Rattle.station.specs.Table.{table_of}
 use Rattle.station.specs.Wrote.{as_bits, Wrote, WroteFront}
 
 -- what the input and the output of a command tell
@@ -70,8 +80,8 @@ pub record PageSent (capcode : ℕ) (old new : Left ℕ) : Type 0 where
   pub air : IsAir (alpha_page capcode text ∷ []) bits
 
 -- `one`, by its status. Done: the bits of the transmission of the page were written. OutFault: a write failed after a front of them.
--- NotBlock: the input isn't one block. BadSum: its trailer is wrong. BadText: its content has no text. InputFault: a read failed. No
--- other status is answered; `one` takes no memory.
+-- NotBlock: the input isn't one block. BadSum: its trailer is wrong. BadText: its content has no text. InputFault: a read failed.
+-- Memory: there was none, and nothing was read or written. No other status is answered.
 abbrev pub OneRow : ℕ → Streams → Streams → Status → Type 0
 OneRow capcode old new Done = (sent : PageSent capcode old.input new.input) × Wrote (as_bits old.out) (as_bits new.out) sent.bits
 OneRow capcode old new OutFault = (sent : PageSent capcode old.input new.input) × WroteFront (as_bits old.out) (as_bits new.out) sent.bits
@@ -79,36 +89,93 @@ OneRow capcode old new NotBlock = ReadNoBlock old.input new.input × (new.out �
 OneRow capcode old new BadSum = ReadBadSum old.input new.input × (new.out ≡ old.out)
 OneRow capcode old new BadText = ReadBadText old.input new.input × (new.out ≡ old.out)
 OneRow capcode old new InputFault = ReadFailed old.input new.input × (new.out ≡ old.out)
+OneRow capcode old new Memory = new ≡ old
 OneRow capcode old new other = ⊥
 
--- what a run's command did: words that are no command's form are answered Usage, and nothing is touched
-abbrev pub Acts : Option Command → Streams → Streams → Status → Type 0
-Acts None old new status = (status ≡ Usage) × (new ≡ old)
-Acts (Some (One capcode)) old new status = OneRow capcode old new status
-
--- The line about a status was put to err, for the statuses that have one. Where putting it failed, the run ends with OutFault.
-abbrev pub Tells : Status → Written ℕ → Written ℕ → Status → Type 0
-Tells Done old new result = (result ≡ Done) × (new ≡ old)
-Tells OutFault old new result = (result ≡ OutFault) × (new ≡ old)
-Tells Settings old new result = (result ≡ Settings) × (new ≡ old)
-Tells BadPages old new result = (result ≡ BadPages) × (new ≡ old)
-Tells status old new OutFault = WroteFront old new (line_of status)
-Tells status old new result = (result ≡ status) × Wrote old new (line_of status)
-
--- what all objects of a run tell
-pub record Outside : Type 0 where
+-- what the objects of a command tell: the wire, the shelf, and the input and the output
+pub record Objects : Type 0 where
   pub wire : Line
   pub shelf : Files
   pub streams : Streams
+
+-- what serving connections uses of them
+abbrev pub around : Objects → Around
+around objects = record { wire = objects.wire; shelf = objects.shelf; out = objects.streams.out }
+
+-- `one`: wire and shelf are as before
+pub record RunsOne (capcode : ℕ) (old new : Objects) (status : Status) : Type 0 where
+  pub row : OneRow capcode old.streams new.streams status
+  pub wire : new.wire ≡ old.wire
+  pub shelf : new.shelf ≡ old.shelf
+
+-- `play` and `show`: what is heard of the bits of a file was printed. Wire and input are as before. Where there was no memory for
+-- the receivers of `play`, nothing is touched.
+pub record RunsPlay (capcodes : List ℕ) (air : List ℕ) (old new : Objects) (status : Status) : Type 0 where
+  pub row : Plays (play_lines capcodes) air old.shelf new.shelf old.streams.out new.streams.out status
+  pub wire : new.wire ≡ old.wire
+  pub input : new.streams.input ≡ old.streams.input
+
+pub record RunsShow (air : List ℕ) (old new : Objects) (status : Status) : Type 0 where
+  pub row : HearsFile table_of air old.shelf new.shelf old.streams.out new.streams.out status
+  pub wire : new.wire ≡ old.wire
+  pub input : new.streams.input ≡ old.streams.input
+
+-- `station`: the settings file was read, and connections were served by its settings; wire, shelf and output are told by `Around`. Where
+-- reading the file failed, where it is refused, and where there was no memory, nothing else was touched. The input is as before.
+pub record RunsStation (settings air : List ℕ) (count : ℕ) (old new : Objects) (outcome : Outcome) : Type 0 where
+  pub row : StationRow settings air count (around old) (around new) outcome
+  pub input : new.streams.input ≡ old.streams.input
+
+-- `trial`: the settings file was read, and the session of the input tried by its settings. Where reading the file failed, where it is
+-- refused, and where there was no memory, nothing else was touched. The wire is as before.
+pub record RunsTrial (settings noise capcodes : List ℕ) (old new : Objects) (outcome : Outcome) : Type 0 where
+  pub row : TrialRow settings noise capcodes old.streams.input new.streams.input old.shelf new.shelf old.streams.out new.streams.out outcome
+  pub wire : new.wire ≡ old.wire
+
+-- `send`: the pages file was read, and a client sent its pages. Where reading the file failed, where it is refused, and where there was
+-- no memory, nothing else was touched. The input is as before.
+pub record RunsSend (pages : List ℕ) (old new : Objects) (outcome : Outcome) : Type 0 where
+  pub row : SendRow pages (around old) (around new) outcome
+  pub input : new.streams.input ≡ old.streams.input
+
+-- an outcome that is a status
+abbrev pub Came : (Status → Type 0) → Outcome → Type 0
+Came row (Ended status) = row status
+Came row (Refused fault) = ⊥
+Came row (Misread fault) = ⊥
+
+-- what a run's command did: words that are no command's form are answered Usage, and nothing is touched
+abbrev pub Acts : Option Command → Objects → Objects → Outcome → Type 0
+Acts None old new outcome = (outcome ≡ Ended Usage) × (new ≡ old)
+Acts (Some (One capcode)) old new outcome = Came (RunsOne capcode old new) outcome
+Acts (Some (Play air capcodes)) old new outcome = Came (RunsPlay capcodes air old new) outcome
+Acts (Some (Show air)) old new outcome = Came (RunsShow air old new) outcome
+Acts (Some (Station address settings air count)) old new outcome = RunsStation settings air count old new outcome
+Acts (Some (Trial settings noise capcodes)) old new outcome = RunsTrial settings noise capcodes old new outcome
+Acts (Some (Send address pages)) old new outcome = RunsSend pages old new outcome
+
+-- What a command promises of the pages that receivers hear: `play` of the bits of its file, `trial` of the session that it tried, and
+-- `station` of the transmissions that it sent.
+abbrev pub Promises : (command : Option Command) (old new : Objects) (outcome : Outcome) → Acts command old new outcome → Type 0
+Promises None old new outcome acts = Unit {0}
+Promises (Some (One capcode)) old new outcome acts = Unit {0}
+Promises (Some (Play air capcodes)) old new outcome acts = HearNear capcodes (bytes_bits (old.shelf.file air))
+Promises (Some (Show air)) old new outcome acts = Unit {0}
+Promises (Some (Send address pages)) old new outcome acts = Unit {0}
+Promises (Some (Station address settings air count)) old new outcome acts = StationPromise settings air count (around old) (around new) outcome acts.row
+Promises (Some (Trial settings noise capcodes)) old new outcome acts =
+    TrialPromise settings noise capcodes old.streams.input new.streams.input old.shelf new.shelf old.streams.out new.streams.out outcome acts.row
+
+-- what all objects of a run tell
+pub record Outside : Type 0 where
+  pub objects : Objects
   pub err : Written ℕ
 
--- A run: the command of its words, the status that the command came to, and the line about it. No command uses the wire or the
--- shelf.
+-- A run: the command of its words, what the command came to and what it promises, and the line about it.
 pub record Runs (words : List (List ℕ)) (old new : Outside) (result : Status) : Type 0 where
   pub command : Option Command
   pub words_are : AreCommand words command
-  pub status : Status
-  pub acts : Acts command old.streams new.streams status
-  pub tells : Tells status old.err new.err result
-  pub wire : new.wire ≡ old.wire
-  pub shelf : new.shelf ≡ old.shelf
+  pub outcome : Outcome
+  pub acts : Acts command old.objects new.objects outcome
+  pub promises : Promises command old.objects new.objects outcome acts
+  pub tells : TellsOutcome outcome old.err new.err result

@@ -1,15 +1,9 @@
 -- What sending a page does.
-use Rattle.std.specs.Prelude.{Bool, List, [], ◌∷◌, ℕ, length, Result, Ok, Err}
-use Rattle.air.specs.Air.{batches, IsAir}
+use Rattle.std.specs.Prelude.{Bool, List, [], ◌∷◌, ℕ, Result, Ok, Err}
+use Rattle.air.specs.Air.{IsAir}
 use Rattle.page_text.specs.Page.{Page}
-use Rattle.scheduler.specs.OnePage.{batches_of_one, slots_of_one}
-use Rattle.scheduler.specs.Slots.{frame, run}
 use Rattle.wires.specs.Written.{Written}
 use Rattle.station.specs.Wrote.{as_bits, Wrote, WroteFront}
-
--- the batches of the transmission of one page
-abbrev pub batches_of : Page → List ℕ
-batches_of page = batches (batches_of_one (frame page) (length (run page))) (slots_of_one page)
 
 -- the bits were written whole, or after Failed a front of them
 abbrev pub SendsAll : {T E : Type 0} → Written ℕ → Written ℕ → List Bool → Result T E → Type 0

@@ -1,47 +1,180 @@
 //! The command lines: docs/profile.md, "command lines".
 
-ghost use Rattle.std.specs.Prelude.{ℕ, MatchOption};
-ghost use Rattle.station.specs.Commands.{AreCommand, IsCapcodeWord, texts};
+ghost use Rattle.std.specs.Prelude.{◌≡◌, ℕ, List, MatchOption};
+ghost use Rattle.station.specs.Commands.{AreCommand, AreOne, ArePlay, AreSend, AreShow, AreStation, AreTrial, IsCountWord, texts};
 ghost use Rattle.station.specs.Meant.{meant};
 
+use crate::capcodes::{Capcodes, capcode_of, capcodes_of};
 use codeword::Capcode;
 
-/// The most digits that the word for a capcode may have.
-const CAPCODE_DIGITS: usize = 7;
-
 /// A command with its words.
-#[derive(Clone, Copy)]
-pub(crate) enum CommandLine {
+#[derive(Drop)]
+pub(crate) enum CommandLine<'a> {
     /// `one CAPCODE`
     One(Capcode),
+    /// `play AIR CAPCODE ..`
+    Play(&'a str, Capcodes),
+    /// `show AIR`
+    Show(&'a str),
+    /// `station ADDRESS SETTINGS AIR N`
+    Station(StationLine<'a>),
+    /// `trial SETTINGS NOISE CAPCODE ..`
+    Trial(&'a str, &'a str, Capcodes),
+    /// `send ADDRESS PAGES`
+    Send(&'a str, &'a str),
 }
 
-/// The capcode that a word of decimal digits says, without sign, with zeros in front or not. None exactly where the word isn't
-/// one to seven digits or no usable capcode.
-fn capcode_of(word: &str) -> Option<Capcode>
-    ensures { MatchOption result ((capcode : ℕ) → IsCapcodeWord word.now capcode → ⊥) (λ capcode. IsCapcodeWord word.now capcode) }
+/// What follows `station`.
+#[derive(Clone, Copy)]
+pub(crate) struct StationLine<'a> {
+    pub(crate) address: &'a str,
+    pub(crate) settings: &'a str,
+    pub(crate) air: &'a str,
+    pub(crate) count: u32,
+}
+
+/// The most connections that a command line may ask for.
+const MOST_CONNECTIONS: u32 = 1000;
+
+/// The number from 1 to 1,000 that a word of decimal digits says, without sign. None exactly where it says none.
+fn count_of(word: &str) -> Option<u32>
+    ensures { MatchOption result ((count : ℕ) → IsCountWord word.now count → ⊥) (λ count. IsCountWord word.now count) }
 {
-    if word.len() > CAPCODE_DIGITS || word.starts_with('+') {
+    if word.starts_with('+') {
         return None;
     }
-    let Ok(number) = word.parse::<u32>() else {
+    let Ok(count) = word.parse::<u32>() else {
         return None;
     };
-    Capcode::of(number)
+    if count < 1 || count > MOST_CONNECTIONS {
+        return None;
+    }
+    Some(count)
+}
+
+/// Reads what follows `station`.
+fn station_line(words: &[String]) -> Option<StationLine<'_>>
+    ensures { MatchOption result ((address settings air : List ℕ) (count : ℕ) → AreStation (texts words.now) address settings air count → ⊥)
+        (λ line. AreStation (texts words.now) line.address.now line.settings.now line.air.now line.count) }
+{
+    let [address, settings, air, count] = words else {
+        return None;
+    };
+    if address.is_empty() || settings.is_empty() || air.is_empty() {
+        return None;
+    }
+    let Some(count) = count_of(count.as_str()) else {
+        return None;
+    };
+    Some(StationLine {
+        address: address.as_str(),
+        settings: settings.as_str(),
+        air: air.as_str(),
+        count,
+    })
+}
+
+/// Reads what follows `trial`.
+fn trial_line(words: &[String]) -> Option<(&str, &str, Capcodes)>
+    ensures { MatchOption result ((settings noise capcodes : List ℕ) → AreTrial (texts words.now) settings noise capcodes → ⊥)
+        (λ line. AreTrial (texts words.now) line.0.now line.1.now line.2) }
+{
+    let [settings, noise, rest @ ..] = words else {
+        return None;
+    };
+    if settings.is_empty() || noise.is_empty() {
+        return None;
+    }
+    let Some(capcodes) = capcodes_of(rest) else {
+        return None;
+    };
+    Some((settings.as_str(), noise.as_str(), capcodes))
+}
+
+/// Reads what follows `send`.
+fn send_line(words: &[String]) -> Option<(&str, &str)>
+    ensures { MatchOption result ((address pages : List ℕ) → AreSend (texts words.now) address pages → ⊥) (λ line. AreSend (texts words.now) line.0.now line.1.now) }
+{
+    let [address, pages] = words else {
+        return None;
+    };
+    if address.is_empty() || pages.is_empty() {
+        return None;
+    }
+    Some((address.as_str(), pages.as_str()))
+}
+
+/// Reads what follows `one`.
+fn one_line(words: &[String]) -> Option<Capcode>
+    ensures { MatchOption result ((capcode : ℕ) → AreOne (texts words.now) capcode → ⊥) (λ capcode. AreOne (texts words.now) capcode) }
+{
+    let [word] = words else {
+        return None;
+    };
+    capcode_of(word.as_str())
+}
+
+/// Reads what follows `show`.
+fn show_line(words: &[String]) -> Option<&str>
+    ensures { MatchOption result ((air : List ℕ) → AreShow (texts words.now) air → ⊥) (λ air. AreShow (texts words.now) air.now) }
+{
+    let [word] = words else {
+        return None;
+    };
+    let air = word.as_str();
+    if air.is_empty() {
+        return None;
+    }
+    Some(air)
+}
+
+/// Reads what follows `play`.
+fn play_line(words: &[String]) -> Option<(&str, Capcodes)>
+    ensures { MatchOption result ((air capcodes : List ℕ) → ArePlay (texts words.now) air capcodes → ⊥) (λ line. ArePlay (texts words.now) line.0.now line.1) }
+{
+    let (word, rest) = words.split_first()?;
+    let air = word.as_str();
+    if air.is_empty() {
+        return None;
+    }
+    let Some(capcodes) = capcodes_of(rest) else {
+        return None;
+    };
+    Some((air, capcodes))
 }
 
 /// Reads the words after the program's name. None exactly where they are no command's form.
-pub(crate) fn parse(words: &[String]) -> Option<CommandLine>
+pub(crate) fn parse(words: &[String]) -> Option<CommandLine<'_>>
     ensures { AreCommand (texts words.now) (meant result) }
 {
-    let [name, word] = words else {
-        return None;
-    };
-    if name.as_str() != "one" {
-        return None;
+    let (name, rest) = words.split_first()?;
+    match name.as_str() {
+        "one" => match one_line(rest) {
+            Some(capcode) => Some(CommandLine::One(capcode)),
+            None => None,
+        },
+        "play" => match play_line(rest) {
+            Some((air, capcodes)) => Some(CommandLine::Play(air, capcodes)),
+            None => None,
+        },
+        "show" => match show_line(rest) {
+            Some(air) => Some(CommandLine::Show(air)),
+            None => None,
+        },
+        "station" => match station_line(rest) {
+            Some(line) => Some(CommandLine::Station(line)),
+            None => None,
+        },
+        "trial" => match trial_line(rest) {
+            Some((settings, noise, capcodes)) => Some(CommandLine::Trial(
+                settings, noise, capcodes,
+            )),
+            None => None,
+        },
+        "send" => match send_line(rest) {
+            Some((address, pages)) => Some(CommandLine::Send(address, pages)),
+            None => None,
+        },
+        _ => None,
     }
-    let Some(capcode) = capcode_of(word.as_str()) else {
-        return None;
-    };
-    Some(CommandLine::One(capcode))
 }

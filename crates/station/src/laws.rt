@@ -1,11 +1,34 @@
-//! Laws of what `one` reads.
+//! Laws of what `one` reads, of the pages that a session accepts, of what is heard of transmissions with few wrong bits, and of a
+//! client and a terminal that hear one another.
 
 ghost use Rattle.std.specs.Prelude.{◌≡◌, ℕ, Bool, List};
+ghost use Rattle.station.specs.AcceptedPages.{AreAcceptable};
+ghost use Rattle.station.specs.Joined.{BothEnds};
 ghost use Rattle.station.specs.LoneBlock.{HasText, IsMarkedBlock};
+ghost use Rattle.station.specs.NearAir.{CleanAir, NearAir};
 
 /// An input is at most one block, with a right trailer or a wrong one, and a content has at most one text. So the answers of `one`
 /// that speak of its input exclude one another.
 pub fn one_answer()
     ensures block { (x body other : List ℕ) (right marked : Bool) → IsMarkedBlock x body right → IsMarkedBlock x other marked → (other ≡ body) × (marked ≡ right) }
     ensures text { (content text other : List ℕ) → HasText content text → HasText content other → other ≡ text }
+{}
+
+/// Where every preamble is heard as it was sent, and every word after it with at most two wrong bits, a receiver hears exactly the
+/// accepted pages of its capcodes, whole, and for each capcode in order. Transmissions that are heard as they were sent are near.
+pub fn near_air()
+    ensures near { NearAir }
+    ensures clean { CleanAir }
+{}
+
+/// Where a client says what it says for the marks of the terminal's replies, and the terminal replies so to what the client says, the
+/// accepted pages are those that the client marks Sent, in their order, each with its id's subscriber and its text.
+pub fn joined()
+    ensures { BothEnds }
+{}
+
+/// Each page that a session accepts under the settings of a file has a usable capcode, and a text that fits its function. This is
+/// what `near_air` asks of the pages.
+pub fn accepted_pages()
+    ensures { AreAcceptable }
 {}

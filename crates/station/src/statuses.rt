@@ -5,7 +5,7 @@ ghost use Rattle.std.specs.Prelude.{◌≡◌};
 /// How a run ended. The program's exit code is its `code`.
 #[derive(Clone, Copy, Debug, PartialEq, Eq)]
 pub enum Status {
-    /// All was done, and no fault was counted.
+    /// All was done. Only lines of a station's sessions may have failed; such a session is told as lost.
     Done,
     /// The words are no command's form.
     Usage,

@@ -88,7 +88,7 @@ const NO_COMMANDS: [&[&str]; 11] = [
     &["one", ""],
     &["one", "00000008"],
     &["one", "8", "9"],
-    &["show", "air.bin"],
+    &["send", "air.bin"],
 ];
 
 #[test]

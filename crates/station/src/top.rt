@@ -3,49 +3,70 @@
 ghost use Rattle.std.specs.Prelude.{◌≡◌};
 ghost use Rattle.station.specs.Commands.{texts};
 ghost use Rattle.station.specs.Meant.{meant};
-ghost use Rattle.station.specs.Rows.{Acts, Runs, Tells};
+ghost use Rattle.station.specs.HeardFile.{Plays};
+ghost use Rattle.station.specs.PageLines.{play_lines};
+ghost use Rattle.station.specs.Rows.{Acts, Runs};
 
+use crate::capcodes::Capcodes;
 use crate::commands::{CommandLine, parse};
+use crate::hearing::{play_file, show_file};
 use crate::one_page::one;
+use crate::outcomes::{Outcome, tell_outcome};
+use crate::pages_runs::run_send;
+use crate::settings_runs::{run_station, run_trial};
 use crate::statuses::Status;
+use receiver::Group;
 use std::alloc::Global;
-use wires::Failed;
+use wires::Memory;
 use wires::shelf::Shelf;
 use wires::sink::Sink;
 use wires::source::Source;
 use wires::wire::Wire;
 
 /// Runs a command.
-fn act<I: Source, O: Sink>(
+fn act<W: Wire, F: Shelf, I: Source, O: Sink>(
     alloc: Global,
-    line: Option<CommandLine>,
+    line: Option<CommandLine<'_>>,
+    wire: &mut W,
+    shelf: &mut F,
     input: &mut I,
     out: &mut O,
-) -> Status
-    ensures { Acts (meant line) (record { input = I.state input.old; out = O.state out.old }) (record { input = I.state input.new; out = O.state out.new }) result }
+) -> Outcome
+    ensures { Acts (meant line.entry)
+        (record { wire = W.state wire.old; shelf = F.state shelf.old; streams = record { input = I.state input.old; out = O.state out.old } })
+        (record { wire = W.state wire.new; shelf = F.state shelf.new; streams = record { input = I.state input.new; out = O.state out.new } })
+        result }
 {
     let Some(line) = line else {
-        return Status::Usage;
+        return Outcome::Ended(Status::Usage);
     };
     match line {
-        CommandLine::One(capcode) => one(alloc, capcode, input, out),
+        CommandLine::One(capcode) => Outcome::Ended(one(alloc, capcode, input, out)),
+        CommandLine::Play(air, capcodes) => {
+            Outcome::Ended(play_air(alloc, air, &capcodes, shelf, out))
+        }
+        CommandLine::Show(air) => Outcome::Ended(show_file(shelf, air, out)),
+        CommandLine::Station(line) => run_station(alloc, &line, wire, shelf, out),
+        CommandLine::Trial(settings, noise, capcodes) => {
+            run_trial(alloc, settings, noise, &capcodes, shelf, input, out)
+        }
+        CommandLine::Send(address, pages) => run_send(alloc, address, pages, wire, shelf, out),
     }
 }
 
-/// Puts the line about a status to `err`. The answer is the status, or OutFault where putting the line failed. Done and OutFault have
-/// no line; nor have Settings and BadPages here, since theirs say what is refused.
-pub fn tell<E: Sink>(status: Status, err: &mut E) -> Status
-    ensures { Tells status (E.state err.old) (E.state err.new) result }
+/// Runs `play`.
+fn play_air<F: Shelf, O: Sink>(
+    alloc: Global,
+    air: &str,
+    capcodes: &Capcodes,
+    shelf: &mut F,
+    out: &mut O,
+) -> Status
+    ensures { Plays (play_lines capcodes.now) air.now (F.state shelf.old) (F.state shelf.new) (O.state out.old) (O.state out.new) result }
 {
-    if matches!(
-        status,
-        Status::Done | Status::OutFault | Status::Settings | Status::BadPages
-    ) {
-        return status;
-    }
-    match err.put(status.line()) {
-        Ok(()) => status,
-        Err(Failed) => Status::OutFault,
+    match Group::new(alloc, capcodes.as_slice()) {
+        Ok(mut group) => play_file(shelf, air, &mut group, out),
+        Err(Memory) => Status::Memory,
     }
 }
 
@@ -53,7 +74,7 @@ pub fn tell<E: Sink>(status: Status, err: &mut E) -> Status
 /// `err`. docs/profile.md, "commands" and "statuses", has the words and when each status comes.
 ///
 /// Words that are no command's form are answered Usage, and nothing is read or written but the line. In the other cases the status
-/// is that of the command, or OutFault where the line couldn't be put. Nothing is done with `wire` and `shelf`.
+/// is that of the command, or OutFault where the line couldn't be put.
 pub fn run<W: Wire, F: Shelf, I: Source, O: Sink, E: Sink>(
     alloc: Global,
     words: &[String],
@@ -64,10 +85,10 @@ pub fn run<W: Wire, F: Shelf, I: Source, O: Sink, E: Sink>(
     err: &mut E,
 ) -> Status
     ensures { Runs (texts words.now)
-        (record { wire = W.state wire.old; shelf = F.state shelf.old; streams = record { input = I.state input.old; out = O.state out.old }; err = E.state err.old })
-        (record { wire = W.state wire.new; shelf = F.state shelf.new; streams = record { input = I.state input.new; out = O.state out.new }; err = E.state err.new })
+        (record { objects = record { wire = W.state wire.old; shelf = F.state shelf.old; streams = record { input = I.state input.old; out = O.state out.old } }; err = E.state err.old })
+        (record { objects = record { wire = W.state wire.new; shelf = F.state shelf.new; streams = record { input = I.state input.new; out = O.state out.new } }; err = E.state err.new })
         result }
 {
-    let status = act(alloc, parse(words), input, out);
-    tell(status, err)
+    let outcome = act(alloc, parse(words), wire, shelf, input, out);
+    tell_outcome(outcome, err)
 }

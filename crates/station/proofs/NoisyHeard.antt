@@ -1,0 +1,199 @@
+-- Listening through a noise, bit by bit.
+use Rattle.std.proofs.Common.{◌≡◌, ℕ, ◌≤◌, ◌<◌, ◌^◌, Bool, true, false, List, [], ◌∷◌, ◌++◌, length, length-append, Result, Ok, Err, IsTrue, refl, sym, ◌∙◌, ap, subst, arith, append_assoc, append-nil}
+use Rattle.std.specs.Prelude.{not}
+use Rattle.std.specs.Bool.{beq}
+use Rattle.bits.specs.Bits.{xor}
+use Rattle.wires.specs.declared.Failed.{Failed}
+use Rattle.wires.specs.Causes.{Rose}
+use Rattle.wires.specs.Left.{Left, Took}
+use Rattle.wires.specs.Stacked.{noisy_bits}
+use Rattle.wires.specs.Written.{Written}
+use Rattle.wires.proofs.Left.{Took-nothing, Took-then}
+use Rattle.wires.proofs.Written.{still}
+use Rattle.station.specs.Listening.{FailedAfter, Prints}
+use Rattle.station.specs.Noise.{HeardThrough, HeardUnprinted, ListeningThrough, NoiseFailed, NoiseGives, NoiseSoFar}
+use Rattle.station.specs.Wrote.{Wrote, WroteFront}
+use Rattle.station.proofs.Listens.{Wrote-nothing, Wrote-then, WroteFront-then}
+
+-- one bit more, and one bit of the noise
+noisy-more : (bits noise : List Bool) (b n : Bool) → length noise ≡ length bits → noisy_bits (bits ++ b ∷ []) (noise ++ n ∷ []) ≡ noisy_bits bits noise ++ xor b n ∷ []
+noisy-more [] [] b n e = refl
+noisy-more [] (m ∷ noise) b n e = absurd (omega (arith, e))
+noisy-more (c ∷ bits) [] b n e = absurd (omega (arith, e))
+noisy-more (c ∷ bits) (m ∷ noise) b n e = ap (λ (xs : List Bool). xor c m ∷ xs) (noisy-more bits noise b n (omega (arith, e)))
+
+xor-none : (b : Bool) → xor b false ≡ b
+xor-none true = refl
+xor-none false = refl
+
+-- one bit more behind the end of the noise
+noisy-behind : (bits noise : List Bool) (b : Bool) → length noise ≤ length bits → noisy_bits (bits ++ b ∷ []) noise ≡ noisy_bits bits noise ++ xor b false ∷ []
+noisy-behind [] [] b h = ap (λ (x : Bool). x ∷ []) (sym (xor-none b))
+noisy-behind [] (m ∷ noise) b h = absurd (omega (arith, h))
+noisy-behind (c ∷ bits) [] b h = ap (λ (x : Bool). c ∷ bits ++ x ∷ []) (sym (xor-none b))
+noisy-behind (c ∷ bits) (m ∷ noise) b h = ap (λ (xs : List Bool). xor c m ∷ xs) (noisy-behind bits noise b (omega (arith, h)))
+
+-- a noise that goes on behind the bits
+noisy-longer : (bits noise more : List Bool) → length bits ≤ length noise → noisy_bits bits (noise ++ more) ≡ noisy_bits bits noise
+noisy-longer [] noise more h = refl
+noisy-longer (b ∷ bits) [] more h = absurd (omega (arith, h))
+noisy-longer (b ∷ bits) (n ∷ noise) more h = ap (λ (xs : List Bool). xor b n ∷ xs) (noisy-longer bits noise more (omega (arith, h)))
+
+pub length-noisy_bits : (bits noise : List Bool) → length (noisy_bits bits noise) ≡ length bits
+length-noisy_bits [] noise = refl
+length-noisy_bits (b ∷ bits) [] = refl
+length-noisy_bits (b ∷ bits) (n ∷ noise) = omega (arith, length-noisy_bits bits noise)
+
+-- the noise after its next bit
+abbrev pub noise_after : Bool → Bool → List Bool → Bool → List Bool
+noise_after false false noise bit = noise ++ bit ∷ []
+noise_after false true noise bit = noise
+noise_after true ended noise bit = noise
+
+pub noisy-after : (before after : Bool) (now next : Left Bool) (bits noise : List Bool) (b n : Bool) → NoiseSoFar before now bits noise → NoiseGives {E = Failed} before after now next (Ok n)
+    → noisy_bits (bits ++ b ∷ []) (noise_after before after noise n) ≡ noisy_bits bits noise ++ xor b n ∷ []
+noisy-after false false now next bits noise b n h g = noisy-more bits noise b n h
+noisy-after false true now next bits noise b n h g =
+    noisy-behind bits noise b (omega (arith, h)) ∙ ap (λ (x : Bool). noisy_bits bits noise ++ xor b x ∷ []) (sym g.0)
+noisy-after true true now next bits noise b n h g =
+    noisy-behind bits noise b h.0 ∙ ap (λ (x : Bool). noisy_bits bits noise ++ xor b x ∷ []) (sym g.0)
+noisy-after true false now next bits noise b n h g = elim g [ ]
+
+pub took_after : (before after : Bool) (old now next : Left Bool) (noise : List Bool) (n : Bool) → Took old now noise → NoiseGives {E = Failed} before after now next (Ok n)
+    → Took old next (noise_after before after noise n)
+took_after false false old now next noise n h g = Took-then old now next noise (n ∷ []) h g
+took_after false true old now next noise n h g = subst (λ (xs : List Bool). Took old next xs) (append-nil noise) (Took-then old now next noise [] h g.1)
+took_after true true old now next noise n h g = subst (λ (x : Left Bool). Took old x noise) (sym g.1) h
+took_after true false old now next noise n h g = elim g [ ]
+
+pub so_far_after : (before after : Bool) (now next : Left Bool) (bits noise : List Bool) (b n : Bool) → NoiseSoFar before now bits noise → NoiseGives {E = Failed} before after now next (Ok n)
+    → (next.tells ≡ now.tells) → NoiseSoFar after next (bits ++ b ∷ []) (noise_after before after noise n)
+so_far_after false false now next bits noise b n h g t = omega (arith, length-append noise (n ∷ []), length-append bits (b ∷ []), h)
+so_far_after false true now next bits noise b n h g t = (omega (arith, length-append bits (b ∷ []), h), λ told. g.2 (subst IsTrue t told))
+so_far_after true true now next bits noise b n h g t =
+    (omega (arith, length-append bits (b ∷ []), h.0), subst (λ (x : Left Bool). IsTrue x.tells → x.left ≡ []) (sym g.1) h.1)
+so_far_after true false now next bits noise b n h g t = elim g [ ]
+
+pub gives_tells : (before after : Bool) (now next : Left Bool) (n : Bool) → NoiseGives {E = Failed} before after now next (Ok n) → next.tells ≡ now.tells
+gives_tells false false now next n g = g.tells
+gives_tells false true now next n g = g.1.tells
+gives_tells true true now next n g = ap (λ (x : Left Bool). x.tells) g.1
+gives_tells true false now next n g = elim g [ ]
+
+-- nothing was heard
+abbrev pub through_begins : (printed : List Bool → List ℕ) (bits : List Bool) (n : Left Bool) (o : Written ℕ) → printed [] ≡ [] → ListeningThrough printed bits bits false n n o o
+through_begins printed bits n o e = record {
+  heard = [];
+  bits_are = refl;
+  noise = [];
+  took = Took-nothing n;
+  so_far = refl;
+  wrote = subst (λ (piece : List ℕ). Wrote o o piece) (sym e) (Wrote-nothing o);
+}
+
+-- one bit more was heard, and what it gives was printed
+abbrev pub through_goes_on : {T F : Type 0} (printed : List Bool → List ℕ) (bits left : List Bool) (before after : Bool) (old now next : Left Bool) (o0 o1 o2 : Written ℕ) (bit flip : Bool) (x : T)
+    → (h : ListeningThrough printed bits (bit ∷ left) before old now o0 o1) → NoiseGives {E = Failed} before after now next (Ok flip)
+    → Prints {E = F} printed (noisy_bits h.heard h.noise) (xor bit flip) o1 o2 (Ok x)
+    → ListeningThrough printed bits left after old next o0 o2
+through_goes_on printed bits left before after old now next o0 o1 o2 bit flip x h g p = record {
+  heard = h.heard ++ bit ∷ [];
+  bits_are = h.bits_are ∙ sym (append_assoc h.heard (bit ∷ []) left);
+  noise = noise_after before after h.noise flip;
+  took = took_after before after old now next h.noise flip h.took g;
+  so_far = so_far_after before after now next h.heard h.noise bit flip h.so_far g (gives_tells before after now next flip g);
+  wrote = subst (λ (piece : List ℕ). Wrote o0 o2 piece) (sym (ap printed (noisy-after before after now next h.heard h.noise bit flip h.so_far g) ∙ p.more))
+      (Wrote-then o0 o1 o2 (printed (noisy_bits h.heard h.noise)) p.piece x h.wrote p.put);
+}
+
+-- a write failed
+pub through_unprinted : {T F : Type 0} (printed : List Bool → List ℕ) (bits left : List Bool) (before after : Bool) (old now next : Left Bool) (o0 o1 o2 : Written ℕ) (bit flip : Bool) (e : F)
+    → (h : ListeningThrough printed bits (bit ∷ left) before old now o0 o1) → NoiseGives {E = Failed} before after now next (Ok flip)
+    → Prints {T = T} printed (noisy_bits h.heard h.noise) (xor bit flip) o1 o2 (Err e)
+    → HeardUnprinted printed bits old next o0 o2
+through_unprinted printed bits left before after old now next o0 o1 o2 bit flip e h g p = record {
+  heard = h.heard ++ bit ∷ [];
+  rest = left;
+  bits_are = h.bits_are ∙ sym (append_assoc h.heard (bit ∷ []) left);
+  noise = noise_after before after h.noise flip;
+  took = took_after before after old now next h.noise flip h.took g;
+  wrote = subst (λ (piece : List ℕ). WroteFront o0 o2 piece) (sym (ap printed (noisy-after before after now next h.heard h.noise bit flip h.so_far g) ∙ p.more))
+      (WroteFront-then o0 o1 o2 (printed (noisy_bits h.heard h.noise)) p.piece e h.wrote p.put);
+}
+
+-- the noise failed
+fails_now : {E : Type 0} (before after : Bool) (now next : Left Bool) (e : E) → NoiseGives before after now next (Err e) → FailedAfter now next []
+fails_now false after now next e g = g
+fails_now true after now next e g = elim g [ ]
+
+pub through_failed : {E : Type 0} (printed : List Bool → List ℕ) (bits left : List Bool) (before after : Bool) (old now next : Left Bool) (o0 o : Written ℕ) (e : E)
+    → (h : ListeningThrough printed bits left before old now o0 o) → NoiseGives before after now next (Err e) → NoiseFailed printed bits old next o0 o
+through_failed printed bits left before after old now next o0 o e h g =
+    let f = fails_now before after now next e g in
+    record {
+      heard = h.heard;
+      rest = left;
+      bits_are = h.bits_are;
+      noise = h.noise;
+      failed = record {
+        tells = f.tells ∙ h.took.tells;
+        left = λ t. h.took.left t ∙ ap (λ (xs : List Bool). h.noise ++ xs) (f.left (still h.took.tells t));
+        unsteady = λ t s. f.unsteady (still h.took.tells t) (h.took.steady t s);
+        faults = subst (λ (k : ℕ). Rose k next.faults) h.took.faults f.faults;
+        lent = f.lent ∙ h.took.lent;
+      };
+      wrote = h.wrote;
+    }
+
+-- all was heard
+noise_of_all : (ended : Bool) (now : Left Bool) (bits noise : List Bool) → NoiseSoFar ended now bits noise → IsTrue now.tells → noisy_bits bits noise ≡ noisy_bits bits (noise ++ now.left)
+noise_of_all false now bits noise h t = sym (noisy-longer bits noise now.left (omega (arith, h)))
+noise_of_all true now bits noise h t = ap (noisy_bits bits) (sym (append-nil noise) ∙ ap (λ (xs : List Bool). noise ++ xs) (sym (h.1 t)))
+
+pub through_all : (printed : List Bool → List ℕ) (bits left : List Bool) (ended : Bool) (old now : Left Bool) (o0 o : Written ℕ) → left ≡ []
+    → (h : ListeningThrough printed bits left ended old now o0 o) → HeardThrough printed bits old now o0 o
+through_all printed bits left ended old now o0 o none h =
+    let all : h.heard ≡ bits = sym (h.bits_are ∙ (ap (λ (xs : List Bool). h.heard ++ xs) none ∙ append-nil h.heard)) in
+    record {
+      noise = h.noise;
+      took = h.took;
+      of_all = λ t. noise_of_all ended now bits h.noise (subst (λ (xs : List Bool). NoiseSoFar ended now xs h.noise) all h.so_far) (still h.took.tells t)
+          ∙ ap (noisy_bits bits) (sym (h.took.left t));
+      wrote = subst (λ (xs : List Bool). Wrote o0 o (printed (noisy_bits xs h.noise))) all h.wrote;
+    }
+
+-- as many bits were heard as the bits that are left allow
+pub few_now : (printed : List Bool → List ℕ) (bits left : List Bool) (ended : Bool) (old now : Left Bool) (o0 o : Written ℕ) (h : ListeningThrough printed bits left ended old now o0 o)
+    → length bits < 2 ^ 32 → length (noisy_bits h.heard h.noise) < 2 ^ 32
+few_now printed bits left ended old now o0 o h few = omega (arith, few, length-noisy_bits h.heard h.noise, ap length h.bits_are, length-append h.heard left)
+
+-- the xor of the code
+pub flipped : (a b : Bool) → not (beq a b) ≡ xor a b
+flipped true true = refl
+flipped true false = refl
+flipped false true = refl
+flipped false false = refl
+
+-- the bit that is heard
+pub prints_flipped : {T F : Type 0} (printed : List Bool → List ℕ) (bits : List Bool) (a b : Bool) (o1 o2 : Written ℕ) (r : Result T F)
+    → Prints printed bits (not (beq a b)) o1 o2 r → Prints printed bits (xor a b) o1 o2 r
+prints_flipped printed bits a b o1 o2 r p = subst (λ (x : Bool). Prints printed bits x o1 o2 r) (flipped a b) p
+
+-- what was heard then
+pub then_heard : (printed : List Bool → List ℕ) (bits left : List Bool) (before after : Bool) (old now next : Left Bool) (o0 o1 : Written ℕ) (bit flip : Bool)
+    → (h : ListeningThrough printed bits (bit ∷ left) before old now o0 o1) → NoiseGives {E = Failed} before after now next (Ok flip)
+    → noisy_bits h.heard h.noise ++ not (beq bit flip) ∷ [] ≡ noisy_bits (h.heard ++ bit ∷ []) (noise_after before after h.noise flip)
+then_heard printed bits left before after old now next o0 o1 bit flip h g =
+    ap (λ (x : Bool). noisy_bits h.heard h.noise ++ x ∷ []) (flipped bit flip) ∙ sym (noisy-after before after now next h.heard h.noise bit flip h.so_far g)
+
+-- the bits that are left, in other words
+abbrev pub with_left : (printed : List Bool → List ℕ) (bits left other : List Bool) (ended : Bool) (old now : Left Bool) (o0 o : Written ℕ) → left ≡ other
+    → ListeningThrough printed bits left ended old now o0 o → ListeningThrough printed bits other ended old now o0 o
+with_left printed bits left other ended old now o0 o e h = record {
+  heard = h.heard;
+  bits_are = h.bits_are ∙ ap (λ (rest : List Bool). h.heard ++ rest) e;
+  noise = h.noise;
+  took = h.took;
+  so_far = h.so_far;
+  wrote = h.wrote;
+}

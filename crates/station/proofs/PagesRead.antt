@@ -1,0 +1,72 @@
+-- The pages of a file, from its bytes in memory.
+use Rattle.std.proofs.Common.{◌≡◌, inl, inr, ℕ, ◌≤◌, ◌<◌, List, length, take, refl, sym, ◌∙◌, subst, arith}
+use Rattle.std.proofs.lemmas.Bool.{cases_lt}
+use Rattle.std.proofs.lemmas.List.{length-take-le, take_all}
+use Rattle.tap_entry.specs.PagesFile.{IsFile, IsRefused, Told, most_bytes}
+use Rattle.tap_entry.specs.declared.faults.PagesFault.{PagesFault}
+use Rattle.tap_entry.specs.declared.faults.PagesFault.TheVariants as Pages
+use Rattle.wires.specs.Files.{Files}
+use Rattle.wires.specs.Line.{Line}
+use Rattle.wires.specs.Written.{Written}
+use Rattle.station.specs.declared.outcomes.Outcome.{Outcome}
+use Rattle.station.specs.declared.outcomes.Outcome.TheVariants.{Ended, Misread, Refused}
+use Rattle.station.specs.declared.statuses.Status.{Status}
+use Rattle.station.specs.declared.statuses.Status.TheVariants.{FileFault, Memory}
+use Rattle.station.specs.Calls.{HasSent}
+use Rattle.station.specs.ReadFile.{ReadInto, most_of_file}
+use Rattle.station.specs.SendRows.{ComesWithout, ReadPages, SendRow}
+use Rattle.station.specs.Serving.{Around}
+
+-- a front of a file that is short is the whole of it
+whole : (bytes : List ℕ) → length (take most_of_file bytes) ≤ most_bytes → take most_of_file bytes ≡ bytes
+whole bytes h = elim (cases_lt most_bytes (length bytes)) [
+  | inl long ↦ (let n = length-take-le most_of_file bytes (omega (arith, long)) in absurd (omega (arith, n, h)))
+  | inr few ↦ take_all most_of_file bytes (omega (arith, few))
+]
+
+long_too : (bytes : List ℕ) → most_bytes < length (take most_of_file bytes) → most_bytes < length bytes
+long_too bytes h = elim (cases_lt most_bytes (length bytes)) [
+  | inl long ↦ long
+  | inr few ↦ subst (λ (xs : List ℕ). most_bytes < length xs) (take_all most_of_file bytes (omega (arith, few))) h
+]
+
+is_file : (bytes : List ℕ) (told : Told) → IsFile (take most_of_file bytes) told → IsFile bytes told
+is_file bytes told h = subst (λ (xs : List ℕ). IsFile xs told) (whole bytes h.short) h
+
+is_refused : (bytes : List ℕ) (fault : PagesFault) → IsRefused (take most_of_file bytes) fault → IsRefused bytes fault
+is_refused bytes Pages.Long h = long_too bytes h
+is_refused bytes (Pages.Line n) h = subst (λ (xs : List ℕ). IsRefused xs (Pages.Line n)) (whole bytes h.0) h
+is_refused bytes Pages.Memory h = tt
+
+-- the file says these pages
+pub read_pages : (name : List ℕ) (a b : Files) (bytes seen : List ℕ) (told : Told) → seen ≡ bytes → ReadInto name a b bytes → IsFile seen told → ReadPages name a b told
+read_pages name a b bytes seen told same read file = record {
+  unharmed = read.unharmed;
+  pages_are = λ t. is_file (a.file name) told (subst (λ (xs : List ℕ). IsFile xs told) (same ∙ read.bytes_are t) file);
+}
+
+-- the file is refused
+unsent : (name : List ℕ) (w : Line) (a b : Files) (o : Written ℕ) (bytes seen : List ℕ) (fault : PagesFault) → seen ≡ bytes → ReadInto name a b bytes → IsRefused seen fault
+    → (fault ≡ Pages.Memory → ⊥) → SendRow name (record { wire = w; shelf = a; out = o }) (record { wire = w; shelf = b; out = o }) (Misread fault)
+unsent name w a b o bytes seen Pages.Memory same read refused other = absurd (other refl)
+unsent name w a b o bytes seen fault same read refused other = (
+  record { unharmed = read.unharmed; refused = λ t. is_refused (a.file name) fault (subst (λ (xs : List ℕ). IsRefused xs fault) (same ∙ read.bytes_are t) refused) },
+  record { wire = refl; out = refl },
+)
+
+pub refused_row : (name : List ℕ) (w : Line) (a b : Files) (o : Written ℕ) (bytes seen : List ℕ) (fault : PagesFault) (outcome : Outcome) → seen ≡ bytes → ReadInto name a b bytes
+    → IsRefused seen fault → ComesWithout fault outcome → SendRow name (record { wire = w; shelf = a; out = o }) (record { wire = w; shelf = b; out = o }) outcome
+refused_row name w a b o bytes seen fault (Ended status) same read refused h =
+    subst (λ (s : Status). SendRow name (record { wire = w; shelf = a; out = o }) (record { wire = w; shelf = b; out = o }) (Ended s)) (sym h.0)
+    (read.unharmed, record { wire = refl; out = refl })
+refused_row name w a b o bytes seen fault (Refused other) same read refused h = elim h [ ]
+refused_row name w a b o bytes seen fault (Misread other) same read refused h =
+    subst (λ (f : PagesFault). SendRow name (record { wire = w; shelf = a; out = o }) (record { wire = w; shelf = b; out = o }) (Misread f)) (sym h.0)
+    (unsent name w a b o bytes seen fault same read refused h.1)
+
+-- the pages were sent
+pub sent_row : (name : List ℕ) (old new : Around) (told : Told) (status : Status) → ReadPages name old.shelf new.shelf told → HasSent told old.wire new.wire old.out new.out status
+    → SendRow name old new (Ended status)
+sent_row name old new told Memory read sends = elim sends.sends [ ]
+sent_row name old new told FileFault read sends = elim sends.sends [ ]
+sent_row name old new told status read sends = record { told = told; read = read; sends = sends }

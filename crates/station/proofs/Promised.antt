@@ -1,0 +1,138 @@
+-- What a run promises of the pages that receivers hear.
+use Rattle.std.proofs.Common.{◌≡◌, ℕ, ◌==◌, Bool, true, false, ◌||◌, List, [], ◌∷◌, Option, Some, None, Ok, refl, sym, ◌∙◌, ap, ap₂, subst, append-nil, eqb-true}
+use Rattle.std.proofs.lemmas.List.Elements.{All-nil, All-cons, All-head, All-tail}
+use Rattle.std.specs.Prelude.{IsTrue, All}
+use Rattle.bits.specs.Bits.{bytes_bits, xor}
+use Rattle.codeword.specs.Capcodes.{IsUsable}
+use Rattle.page_text.specs.Page.{Page, IsAcceptable}
+use Rattle.subscribers.specs.Parts.{Parts}
+use Rattle.subscribers.specs.Settings.{settings_of}
+use Rattle.air.proofs.Near.{near-airs}
+use Rattle.air.specs.Air.{IsAir}
+use Rattle.air.specs.Near.{IsAirs, Near}
+use Rattle.receiver.specs.Listeners.{is_one_of}
+use Rattle.wires.specs.Files.{Files}
+use Rattle.wires.specs.Left.{Left}
+use Rattle.wires.specs.Stacked.{noisy_bits}
+use Rattle.wires.specs.Written.{Written}
+use Rattle.station.proofs.AcceptablePages.{are_acceptable}
+use Rattle.station.proofs.NearAir.{near_air}
+use Rattle.station.specs.declared.outcomes.Outcome.{Outcome}
+use Rattle.station.specs.declared.outcomes.Outcome.TheVariants.{Ended, Misread, Refused}
+use Rattle.station.specs.declared.statuses.Status.TheVariants.{Done, Usage}
+use Rattle.station.specs.Commands.{AreCommand, Command, One, Play, Say, Send, Show, Station, Trial}
+use Rattle.station.specs.NearAir.{AreUsable}
+use Rattle.station.specs.Promises.{HearNear, HearsTrial, StationPromise, TrialPromise, accepted_in}
+use Rattle.station.specs.ReadFile.{ReadSettings}
+use Rattle.station.specs.Rows.{Acts, Objects, Promises}
+use Rattle.station.specs.Served.{Served, airs}
+use Rattle.station.specs.Serving.{Around}
+use Rattle.station.specs.StationRows.{AreFileBits, StationRow, TrialRow}
+
+-- ---- capcodes of words are usable
+
+usable_or : (c x : ℕ) (capcodes : List ℕ) (same : Bool) → (c == x) ≡ same → IsUsable c → (is_one_of capcodes x ≡ true → IsUsable x) → is_one_of (c ∷ capcodes) x ≡ true → IsUsable x
+usable_or c x capcodes true e u later h = subst IsUsable (eqb-true c x e) u
+usable_or c x capcodes false e u later h = later (sym (ap (λ (t : Bool). t || is_one_of capcodes x) e) ∙ h)
+
+AreUsable-words : (words : List (List ℕ)) (capcodes : List ℕ) → Say words capcodes → AreUsable (is_one_of capcodes)
+AreUsable-words [] [] h x k = absurd cc
+AreUsable-words [] (c ∷ capcodes) h x k = elim h [ ]
+AreUsable-words (w ∷ words) [] h x k = elim h [ ]
+AreUsable-words (w ∷ words) (c ∷ capcodes) h x k = usable_or c x capcodes (c == x) refl h.0.usable (AreUsable-words words capcodes h.1 x) k
+
+-- ---- near transmissions
+
+HearNear-from : (capcodes : List ℕ) (bits : List Bool) → AreUsable (is_one_of capcodes) → HearNear capcodes bits
+HearNear-from capcodes bits u lists h near = near_air (is_one_of capcodes) lists bits u h near
+
+-- ---- a trial
+
+noisy_bits-silent : (bs ns : List Bool) → All (λ bit. bit ≡ false) ns → noisy_bits bs ns ≡ bs
+noisy_bits-silent [] ns h = refl
+noisy_bits-silent (b ∷ bs) [] h = refl
+noisy_bits-silent (b ∷ bs) (n ∷ ns) h =
+    ap₂ (λ (x : Bool) (xs : List Bool). x ∷ xs) (ap (xor b) (All-head (λ bit. bit ≡ false) n ns h) ∙ xor_none b) (noisy_bits-silent bs ns (All-tail (λ bit. bit ≡ false) n ns h))
+  where
+    xor_none : (b : Bool) → xor b false ≡ b
+    xor_none true = refl
+    xor_none false = refl
+
+-- one transmission
+one_air : (pages : List Page) (air : List Bool) → IsAir pages air → IsAirs (pages ∷ []) air
+unfolding IsAirs
+one_air pages air h = (air, [], h, refl, sym (append-nil air))
+
+hears_trial : (capcodes : List ℕ) (pages : List Page) (air flips noise : List Bool) → AreUsable (is_one_of capcodes) → All IsAcceptable pages → IsAir pages air
+    → noisy_bits air flips ≡ noisy_bits air noise → HearsTrial capcodes pages air flips noise
+hears_trial capcodes pages air flips noise u h a e =
+    let all = All-cons (All IsAcceptable) pages [] h (All-nil (All IsAcceptable)) in
+    let hears : HearNear capcodes (noisy_bits air flips) = HearNear-from capcodes (noisy_bits air flips) u in
+    record {
+      bits = e;
+      near = hears (pages ∷ []) all;
+      silent = λ quiet. hears (pages ∷ []) all
+          (subst (λ (xs : List Bool). Near (pages ∷ []) xs) (sym (e ∙ noisy_bits-silent air noise quiet)) (near-airs (pages ∷ []) air (one_air pages air a)));
+    }
+
+-- the bits of a file of a shelf whose files are those of another
+file_same : (name : List ℕ) (old now : Files) (bits : Left Bool) (settings : List ℕ) (parts : Parts) → ReadSettings settings old now parts → AreFileBits name now bits
+    → IsTrue old.tells → IsTrue bits.tells × (bits.left ≡ bytes_bits (old.file name))
+file_same name old now bits settings parts r b t =
+    (subst IsTrue (sym (b.tells ∙ r.unharmed.kept.tells)) t, b.left ∙ ap (λ files. bytes_bits (files.file name)) r.unharmed.kept.files)
+
+trial_promise : (settings noise capcodes : List ℕ) (input0 input : Left ℕ) (old new : Files) (out0 out : Written ℕ) (outcome : Outcome)
+    (row : TrialRow settings noise capcodes input0 input old new out0 out outcome) → AreUsable (is_one_of capcodes)
+    → TrialPromise settings noise capcodes input0 input old new out0 out outcome row
+trial_promise settings noise capcodes input0 input old new out0 out (Refused fault) row u = tt
+trial_promise settings noise capcodes input0 input old new out0 out (Misread fault) row u = tt
+trial_promise settings noise capcodes input0 input old new out0 out (Ended Done) row u = λ t.
+    let b = file_same noise old row.shelf row.tried.bits settings row.parts row.read row.tried.bits_are t in
+    let s = row.tried.tries.tried in
+    hears_trial capcodes s.session.pages s.air row.tried.tries.flips (bytes_bits (old.file noise)) u
+    (are_acceptable (old.file settings) row.parts row.parts.cells s.taken s.session (row.read.settings_are t) s.session_is)
+    s.is_air (row.tried.tries.of_noise b.0 ∙ ap (noisy_bits s.air) b.1)
+trial_promise settings noise capcodes input0 input old new out0 out (Ended Usage) row u = tt
+trial_promise settings noise capcodes input0 input old new out0 out (Ended status) row u = tt
+
+-- ---- sessions that were served
+
+airs_of : {settings : Parts} {spare : ℕ} (sessions : List (Served settings spare)) → IsAirs (accepted_in sessions) (airs sessions)
+unfolding IsAirs
+airs_of [] = refl
+airs_of (s ∷ sessions) = (s.bits, airs sessions, s.is_air, airs_of sessions, refl)
+
+acceptable_in : (bytes : List ℕ) {settings : Parts} {spare : ℕ} (sessions : List (Served settings spare)) → settings_of bytes ≡ Ok settings → All (All IsAcceptable) (accepted_in sessions)
+acceptable_in bytes [] h = All-nil (All IsAcceptable)
+acceptable_in bytes {settings = settings} {spare = spare} (s ∷ sessions) h =
+    All-cons (All IsAcceptable) s.ran.session.pages (accepted_in sessions) (are_acceptable bytes settings spare s.ran.fed s.ran.session h s.ran.session_is)
+    (acceptable_in bytes sessions h)
+
+station_promise : (settings air : List ℕ) (count : ℕ) (old new : Around) (outcome : Outcome) (row : StationRow settings air count old new outcome)
+    → StationPromise settings air count old new outcome row
+station_promise settings air count old new (Refused fault) row = tt
+station_promise settings air count old new (Misread fault) row = tt
+station_promise settings air count old new (Ended Done) row = λ t. record {
+  acceptable = acceptable_in (old.shelf.file settings) row.served.sessions (row.read.settings_are t);
+  airs = airs_of row.served.sessions;
+}
+station_promise settings air count old new (Ended status) row = tt
+
+-- ---- a run
+
+pub promised : (words : List (List ℕ)) (command : Option Command) (old new : Objects) (outcome : Outcome) (acts : Acts command old new outcome) → AreCommand words command
+    → Promises command old new outcome acts
+promised words None old new outcome acts h = tt
+promised words (Some (One capcode)) old new outcome acts h = tt
+promised [] (Some (Play air capcodes)) old new outcome acts h = elim h [ ]
+promised (name ∷ []) (Some (Play air capcodes)) old new outcome acts h = elim h.1 [ ]
+promised (name ∷ w ∷ words) (Some (Play air capcodes)) old new outcome acts h =
+    HearNear-from capcodes (bytes_bits (old.shelf.file air)) (AreUsable-words words capcodes h.1.2.say)
+promised words (Some (Show air)) old new outcome acts h = tt
+promised words (Some (Send address pages)) old new outcome acts h = tt
+promised words (Some (Station address settings air count)) old new outcome acts h = station_promise settings air count _ _ outcome acts.row
+promised [] (Some (Trial settings noise capcodes)) old new outcome acts h = elim h [ ]
+promised (name ∷ []) (Some (Trial settings noise capcodes)) old new outcome acts h = elim h.1 [ ]
+promised (name ∷ s ∷ []) (Some (Trial settings noise capcodes)) old new outcome acts h = elim h.1 [ ]
+promised (name ∷ s ∷ f ∷ words) (Some (Trial settings noise capcodes)) old new outcome acts h =
+    trial_promise settings noise capcodes _ _ _ _ _ _ outcome acts.row (AreUsable-words words capcodes h.1.4.say)

@@ -1,0 +1,150 @@
+-- The commands `station` and `trial`, from their parts.
+use Rattle.std.proofs.Common.{◌≡◌, inl, inr, ℕ, Bool, List, [], ◌∷◌, drop, refl, ◌∙◌, ap, subst, arith}
+use Rattle.std.specs.Borrow.{GName}
+use Rattle.page_pool.specs.Pool.{Pool, cells, in_use}
+use Rattle.subscribers.specs.Parts.{Parts}
+use Rattle.wires.specs.Files.{Files, all_files}
+use Rattle.wires.specs.Held.{Held, Lent, OfShelf, OtherFiles, Text}
+use Rattle.wires.specs.Left.{Left}
+use Rattle.wires.specs.Stacked.{shelf_bits}
+use Rattle.wires.specs.Written.{Written}
+use Rattle.station.specs.declared.outcomes.Outcome.TheVariants.{Ended}
+use Rattle.station.specs.declared.statuses.Status.{Status}
+use Rattle.station.specs.declared.statuses.Status.TheVariants.{BadPages, BadSum, BadText, Done, FileFault, InputFault, LogonRefused, Memory, NotBlock, OutFault, Settings, SomeUnsent, TooLong, Usage, WireFault}
+use Rattle.station.specs.PageLines.{play_lines}
+use Rattle.station.specs.ReadFile.{ReadSettings}
+use Rattle.station.specs.Serving.{Around, HasServed}
+use Rattle.station.specs.StationRows.{AreFileBits, ServedBy, StationRow, TrialRow, TriedBy, TriesFile, with_shelf}
+use Rattle.station.specs.Trying.{Tries}
+
+-- a pool without pages has as many cells as are spare
+pub cells_spare : (w : Pool) (n : ℕ) → w.live ≡ [] → w.spare ≡ n → cells w ≡ n
+cells_spare w n none spare = let used : in_use w.live ≡ 0 = ap in_use none in omega (arith, used, spare)
+
+-- connections were served by settings
+served_by : (settings air : List ℕ) (count : ℕ) (old new : Around) (parts s : Parts) (shelf : Files) (n : ℕ) (status : Status) → s ≡ parts → n ≡ parts.cells
+    → ReadSettings settings old.shelf shelf parts → HasServed s n (with_shelf old shelf) new air count status → ServedBy settings air count old new status
+served_by settings air count old new parts s shelf n status e k read h = record {
+  parts = parts;
+  shelf = shelf;
+  read = read;
+  served = subst (λ (m : ℕ). HasServed parts m (with_shelf old shelf) new air count status) k
+      (subst (λ (p : Parts). HasServed p n (with_shelf old shelf) new air count status) e h);
+}
+
+pub station_row : (settings air : List ℕ) (count : ℕ) (old new : Around) (parts s : Parts) (shelf : Files) (n : ℕ) (status : Status) → s ≡ parts → n ≡ parts.cells
+    → ReadSettings settings old.shelf shelf parts → HasServed s n (with_shelf old shelf) new air count status → StationRow settings air count old new (Ended status)
+station_row settings air count old new parts s shelf n Memory e k read h = elim h [ ]
+station_row settings air count old new parts s shelf n FileFault e k read h = inr (served_by settings air count old new parts s shelf n FileFault e k read h)
+station_row settings air count old new parts s shelf n Usage e k read h = served_by settings air count old new parts s shelf n Usage e k read h
+station_row settings air count old new parts s shelf n Settings e k read h = served_by settings air count old new parts s shelf n Settings e k read h
+station_row settings air count old new parts s shelf n WireFault e k read h = served_by settings air count old new parts s shelf n WireFault e k read h
+station_row settings air count old new parts s shelf n OutFault e k read h = served_by settings air count old new parts s shelf n OutFault e k read h
+station_row settings air count old new parts s shelf n InputFault e k read h = served_by settings air count old new parts s shelf n InputFault e k read h
+station_row settings air count old new parts s shelf n NotBlock e k read h = served_by settings air count old new parts s shelf n NotBlock e k read h
+station_row settings air count old new parts s shelf n BadSum e k read h = served_by settings air count old new parts s shelf n BadSum e k read h
+station_row settings air count old new parts s shelf n BadText e k read h = served_by settings air count old new parts s shelf n BadText e k read h
+station_row settings air count old new parts s shelf n TooLong e k read h = served_by settings air count old new parts s shelf n TooLong e k read h
+station_row settings air count old new parts s shelf n LogonRefused e k read h = served_by settings air count old new parts s shelf n LogonRefused e k read h
+station_row settings air count old new parts s shelf n SomeUnsent e k read h = served_by settings air count old new parts s shelf n SomeUnsent e k read h
+station_row settings air count old new parts s shelf n BadPages e k read h = served_by settings air count old new parts s shelf n BadPages e k read h
+station_row settings air count old new parts s shelf n Done e k read h = served_by settings air count old new parts s shelf n Done e k read h
+
+-- the files that bits over a shelf hold
+abbrev files_of : Files → List Held → OtherFiles
+files_of s (Lent n ∷ Text t ∷ OfShelf o ∷ rest) = o
+files_of s _ = all_files s
+
+-- whether the noise tells, and what it holds of others, is as it was
+tries_kept : (parts : Parts) (spare : ℕ) (printed : List Bool → List ℕ) (i0 i : Left ℕ) (a b : Left Bool) (o0 o : Written ℕ) (status : Status)
+    → Tries parts spare printed i0 i a b o0 o status → (b.tells ≡ a.tells) × (b.lent ≡ a.lent)
+tries_kept parts spare printed i0 i a b o0 o Done h = (h.took_flips.tells, h.took_flips.lent)
+tries_kept parts spare printed i0 i a b o0 o FileFault h = (h.failed.tells, h.failed.lent)
+tries_kept parts spare printed i0 i a b o0 o InputFault h = (ap (λ (x : Left Bool). x.tells) h.noise_is, ap (λ (x : Left Bool). x.lent) h.noise_is)
+tries_kept parts spare printed i0 i a b o0 o OutFault (inl h) = (ap (λ (x : Left Bool). x.tells) h.noise_is, ap (λ (x : Left Bool). x.lent) h.noise_is)
+tries_kept parts spare printed i0 i a b o0 o OutFault (inr h) = (h.took_flips.tells, h.took_flips.lent)
+tries_kept parts spare printed i0 i a b o0 o Usage h = elim h [ ]
+tries_kept parts spare printed i0 i a b o0 o Settings h = elim h [ ]
+tries_kept parts spare printed i0 i a b o0 o WireFault h = elim h [ ]
+tries_kept parts spare printed i0 i a b o0 o NotBlock h = elim h [ ]
+tries_kept parts spare printed i0 i a b o0 o BadSum h = elim h [ ]
+tries_kept parts spare printed i0 i a b o0 o BadText h = elim h [ ]
+tries_kept parts spare printed i0 i a b o0 o TooLong h = elim h [ ]
+tries_kept parts spare printed i0 i a b o0 o LogonRefused h = elim h [ ]
+tries_kept parts spare printed i0 i a b o0 o SomeUnsent h = elim h [ ]
+tries_kept parts spare printed i0 i a b o0 o BadPages h = elim h [ ]
+tries_kept parts spare printed i0 i a b o0 o Memory h = elim h [ ]
+
+file_bits_are : (n : GName) (name same : List ℕ) (ready : List Bool) (from : ℕ) (old now : Files) → ready ≡ [] → from ≡ 0 → same ≡ name → now ≡ old
+    → AreFileBits name old (shelf_bits n same ready from now)
+file_bits_are n name same ready from old now r f s e = record {
+  tells = ap (λ (x : Files). x.tells) e;
+  left = rw (r, f, s, e) refl;
+  steady = rw (s, e) refl;
+  faults = ap (λ (x : Files). x.faults) e;
+}
+
+pub tries_file : (parts : Parts) (spare : ℕ) (printed : List Bool → List ℕ) (m n : GName) (name same then : List ℕ) (ready later : List Bool) (from at : ℕ) (i0 i : Left ℕ) (old now new : Files)
+    (o0 o : Written ℕ) (status : Status) → ready ≡ [] → from ≡ 0 → same ≡ name → now ≡ old
+    → Tries parts spare printed i0 i (shelf_bits n same ready from now) (shelf_bits m then later at new) o0 o status
+    → TriesFile parts spare printed name i0 i old new o0 o status
+tries_file parts spare printed m n name same then ready later from at i0 i old now new o0 o status r f s e h =
+    let k = tries_kept parts spare printed i0 i (shelf_bits n same ready from now) (shelf_bits m then later at new) o0 o status h in
+    record {
+      bits = shelf_bits n same ready from now;
+      rest = shelf_bits m then later at new;
+      bits_are = file_bits_are n name same ready from old now r f s e;
+      tries = h;
+      kept = record {
+        tells = k.0 ∙ ap (λ (x : Files). x.tells) e;
+        files = ap (files_of old) k.1 ∙ ap all_files e;
+        lent = ap (λ (held : List Held). drop 3 held) k.1 ∙ ap (λ (x : Files). x.lent) e;
+      };
+      faults = refl;
+    }
+
+-- the session of an input was tried by settings
+tried_by : (settings noise capcodes : List ℕ) (i0 i : Left ℕ) (old new : Files) (o0 o : Written ℕ) (parts s : Parts) (shelf : Files) (n : ℕ) (printed : List Bool → List ℕ) (status : Status)
+    → s ≡ parts → n ≡ parts.cells → printed ≡ play_lines capcodes → ReadSettings settings old shelf parts → TriesFile s n printed noise i0 i shelf new o0 o status
+    → TriedBy settings noise capcodes i0 i old new o0 o status
+tried_by settings noise capcodes i0 i old new o0 o parts s shelf n printed status e k p read h = record {
+  parts = parts;
+  shelf = shelf;
+  read = read;
+  tried = subst (λ (f : List Bool → List ℕ). TriesFile parts parts.cells f noise i0 i shelf new o0 o status) p
+      (subst (λ (m : ℕ). TriesFile parts m printed noise i0 i shelf new o0 o status) k
+      (subst (λ (q : Parts). TriesFile q n printed noise i0 i shelf new o0 o status) e h));
+}
+
+pub trial_row : (settings noise capcodes : List ℕ) (i0 i : Left ℕ) (old new : Files) (o0 o : Written ℕ) (parts s : Parts) (shelf : Files) (n : ℕ) (printed : List Bool → List ℕ) (status : Status)
+    → s ≡ parts → n ≡ parts.cells → printed ≡ play_lines capcodes → ReadSettings settings old shelf parts → TriesFile s n printed noise i0 i shelf new o0 o status
+    → TrialRow settings noise capcodes i0 i old new o0 o (Ended status)
+trial_row settings noise capcodes i0 i old new o0 o parts s shelf n printed Memory e k p read h = elim h.tries [ ]
+trial_row settings noise capcodes i0 i old new o0 o parts s shelf n printed FileFault e k p read h =
+    inr (tried_by settings noise capcodes i0 i old new o0 o parts s shelf n printed FileFault e k p read h)
+trial_row settings noise capcodes i0 i old new o0 o parts s shelf n printed Usage e k p read h =
+    tried_by settings noise capcodes i0 i old new o0 o parts s shelf n printed Usage e k p read h
+trial_row settings noise capcodes i0 i old new o0 o parts s shelf n printed Settings e k p read h =
+    tried_by settings noise capcodes i0 i old new o0 o parts s shelf n printed Settings e k p read h
+trial_row settings noise capcodes i0 i old new o0 o parts s shelf n printed WireFault e k p read h =
+    tried_by settings noise capcodes i0 i old new o0 o parts s shelf n printed WireFault e k p read h
+trial_row settings noise capcodes i0 i old new o0 o parts s shelf n printed OutFault e k p read h =
+    tried_by settings noise capcodes i0 i old new o0 o parts s shelf n printed OutFault e k p read h
+trial_row settings noise capcodes i0 i old new o0 o parts s shelf n printed InputFault e k p read h =
+    tried_by settings noise capcodes i0 i old new o0 o parts s shelf n printed InputFault e k p read h
+trial_row settings noise capcodes i0 i old new o0 o parts s shelf n printed NotBlock e k p read h =
+    tried_by settings noise capcodes i0 i old new o0 o parts s shelf n printed NotBlock e k p read h
+trial_row settings noise capcodes i0 i old new o0 o parts s shelf n printed BadSum e k p read h =
+    tried_by settings noise capcodes i0 i old new o0 o parts s shelf n printed BadSum e k p read h
+trial_row settings noise capcodes i0 i old new o0 o parts s shelf n printed BadText e k p read h =
+    tried_by settings noise capcodes i0 i old new o0 o parts s shelf n printed BadText e k p read h
+trial_row settings noise capcodes i0 i old new o0 o parts s shelf n printed TooLong e k p read h =
+    tried_by settings noise capcodes i0 i old new o0 o parts s shelf n printed TooLong e k p read h
+trial_row settings noise capcodes i0 i old new o0 o parts s shelf n printed LogonRefused e k p read h =
+    tried_by settings noise capcodes i0 i old new o0 o parts s shelf n printed LogonRefused e k p read h
+trial_row settings noise capcodes i0 i old new o0 o parts s shelf n printed SomeUnsent e k p read h =
+    tried_by settings noise capcodes i0 i old new o0 o parts s shelf n printed SomeUnsent e k p read h
+trial_row settings noise capcodes i0 i old new o0 o parts s shelf n printed BadPages e k p read h =
+    tried_by settings noise capcodes i0 i old new o0 o parts s shelf n printed BadPages e k p read h
+trial_row settings noise capcodes i0 i old new o0 o parts s shelf n printed Done e k p read h =
+    tried_by settings noise capcodes i0 i old new o0 o parts s shelf n printed Done e k p read h

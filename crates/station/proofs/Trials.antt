@@ -1,0 +1,153 @@
+-- A trial, from the answers and from what is heard.
+use Rattle.std.proofs.Common.{◌≡◌, inr, ℕ, Bool, List, [], ◌∷◌, ◌++◌, append-nil, append_assoc, length, length-append, take, map, ◌+◌, arith, Ok, Err, refl, sym, ◌∙◌, ap, subst}
+use Rattle.std.specs.Prelude.{codes}
+use Rattle.bits.specs.Bits.{words_bits}
+use Rattle.page_text.specs.Page.{Page}
+use Rattle.page_pool.specs.Pool.{Live, Pool, pages}
+use Rattle.scheduler.proofs.Schedules.{one_schedule}
+use Rattle.air.specs.Air.{IsAir, transmission}
+use Rattle.subscribers.specs.Parts.{Parts}
+use Rattle.wires.specs.declared.Failed.{Failed}
+use Rattle.wires.specs.Left.{Left}
+use Rattle.wires.specs.Stacked.{noisy_bits}
+use Rattle.wires.specs.Written.{Puts, Written}
+use Rattle.std.proofs.Math.Seq.{take-append-add}
+use Rattle.wires.specs.Causes.{Rose}
+use Rattle.wires.proofs.Left.{Took-nothing}
+use Rattle.wires.proofs.Written.{still}
+use Rattle.station.specs.declared.statuses.Status.{Status}
+use Rattle.station.specs.declared.statuses.Status.TheVariants.{BadPages, BadSum, BadText, Done, FileFault, InputFault, LogonRefused, Memory, NotBlock, OutFault, Settings, SomeUnsent, TooLong, Usage, WireFault}
+use Rattle.station.specs.Answering.{AnsweredInput}
+use Rattle.station.specs.Answers.{answer_lines}
+use Rattle.station.specs.Noise.{ListensThrough}
+use Rattle.station.specs.Trying.{HearsPages, TriedFront, TriedSession, Tries}
+use Rattle.station.specs.Wrote.{Wrote, WroteFront}
+use Rattle.station.proofs.Listens.{Puts-from_wrote, Wrote-then, WroteFront-then}
+use Rattle.station.proofs.NoisyHeard.{through_all, through_begins}
+
+-- each list of pages has a transmission
+air_of : (accepted : List Page) → (air : List Bool) × IsAir accepted air
+air_of [] = ([], refl)
+air_of (page ∷ accepted) =
+    let s = one_schedule (page ∷ accepted) (λ e. cc) in
+    (words_bits (transmission s.0), (s.0, s.1, refl))
+
+-- a pool without live pages has no pages
+pub no_pages : (w : Pool) → length w.live ≡ 0 → pages w ≡ []
+no_pages w e = none w.live e
+  where
+    none : (es : List Live) → length es ≡ 0 → map (λ (l : Live). l.page) es ≡ []
+    none [] e = refl
+    none (x ∷ es) e = cc
+
+-- what is heard of no page
+pub hears_none : (accepted : List Page) (printed : List Bool → List ℕ) (n : Left Bool) (o : Written ℕ) → printed [] ≡ [] → accepted ≡ [] → HearsPages accepted printed n n o o Done
+hears_none accepted printed n o silent e = record {
+  air = [];
+  is_air = subst (λ (p : List Page). IsAir p []) (sym e) refl;
+  heard = through_all printed [] [] _ n n o o refl (through_begins printed [] n o (silent));
+}
+
+-- writes after what was written
+wrote_more : {A : Type 0} (a b c : Written A) (p q : List A) → Wrote a b p → Wrote b c q → Wrote a c (p ++ q)
+wrote_more a b c p q h k = Wrote-then {T = Unit {0}} {E = Failed} a b c p q (tt {0}) h (Puts-from_wrote b c q (tt {0}) k)
+
+front_more : {A : Type 0} (a b c : Written A) (p q : List A) → Wrote a b p → WroteFront b c q → WroteFront a c (p ++ q)
+front_more a b c p q h k = record {
+  tells = k.tells ∙ h.tells;
+  held = λ t.
+      let f = k.held (still h.tells t) in (
+        length p + f.0,
+        omega (arith, f.1, length-append p q),
+        f.2 ∙ (ap (λ (xs : List _). xs ++ take f.0 q) (h.held t) ∙ (append_assoc a.held p (take f.0 q) ∙ ap (λ (xs : List _). a.held ++ xs) (sym (take-append-add p q f.0)))),
+      );
+  room = λ t. k.room (still h.tells t) ∙ h.room t;
+  unfit = λ t s fits.
+      let n = length-append p q in
+      let one = h.steady t s (omega (arith, n, fits)) in
+      k.unfit (still h.tells t) one (omega (arith, n, fits, h.room t, ap length (h.held t), length-append a.held p));
+  faults = subst (λ (k : ℕ). Rose k c.faults) h.faults k.faults;
+  lent = k.lent ∙ h.lent;
+}
+
+abbrev tried : (settings : Parts) (spare : ℕ) (i0 i : Left ℕ) (before after : Pool) (o0 o1 : Written ℕ) (air : List Bool) → (h : AnsweredInput settings spare i0 i before after o0 o1) → pages before ≡ []
+    → IsAir (pages after) air → TriedSession settings spare i0 i
+tried settings spare i0 i before after o0 o1 air h none is = record {
+  taken = h.taken;
+  took = h.took;
+  session = h.session;
+  session_is = h.session_is;
+  of_all = h.of_all;
+  air = air;
+  is_air = subst (λ (p : List Page). IsAir p air) (h.gained.pages_are ∙ ap (λ (p : List Page). p ++ h.session.pages) none) is;
+}
+
+-- the line between couldn't be printed
+pub tries_between : (settings : Parts) (spare : ℕ) (printed : List Bool → List ℕ) (i0 i : Left ℕ) (before after : Pool) (n : Left Bool) (o0 o1 o2 : Written ℕ) (piece : List ℕ) (e : Failed)
+    → printed [] ≡ [] → piece ≡ codes "---\n" → AnsweredInput settings spare i0 i before after o0 o1 → pages before ≡ [] → Puts {T = Unit {0}} o1 o2 piece (Err e)
+    → TriedFront settings spare printed i0 i n n o0 o2
+tries_between settings spare printed i0 i before after n o0 o1 o2 piece e silent is h none k =
+    let a = air_of (pages after) in
+    record {
+      tried = tried settings spare i0 i before after o0 o1 a.0 h none a.1;
+      heard = [];
+      rest = a.0;
+      air_is = refl;
+      flips = [];
+      took_flips = Took-nothing n;
+      wrote = subst (λ (z : List ℕ). WroteFront o0 o2 z)
+          (ap (λ (z : List ℕ). answer_lines h.session.answers ++ z) is ∙ (sym (append-nil (answer_lines h.session.answers ++ codes "---\n"))
+          ∙ ap (λ (z : List ℕ). answer_lines h.session.answers ++ codes "---\n" ++ z) (sym (silent))))
+          (WroteFront-then {T = Unit {0}} o0 o1 o2 (answer_lines h.session.answers) piece e h.wrote k);
+    }
+
+-- the line between was printed, and then what was heard
+pub tries_heard : (settings : Parts) (spare : ℕ) (printed : List Bool → List ℕ) (i0 i : Left ℕ) (before after : Pool) (n0 n : Left Bool) (o0 o1 o2 o3 : Written ℕ) (piece : List ℕ) (x : Unit {0})
+    (status : Status) → piece ≡ codes "---\n" → AnsweredInput settings spare i0 i before after o0 o1 → pages before ≡ [] → Puts {E = Failed} o1 o2 piece (Ok x)
+    → HearsPages (pages after) printed n0 n o2 o3 status → Tries settings spare printed i0 i n0 n o0 o3 status
+tries_heard settings spare printed i0 i before after n0 n o0 o1 o2 o3 piece x status is h none k q = by_status status q.heard
+  where
+    between : Wrote o0 o2 (answer_lines h.session.answers ++ codes "---\n")
+    between = subst (λ (z : List ℕ). Wrote o0 o2 (answer_lines h.session.answers ++ z)) is (Wrote-then {E = Failed} o0 o1 o2 (answer_lines h.session.answers) piece x h.wrote k)
+
+    by_status : (s : Status) → ListensThrough printed q.air n0 n o2 o3 s → Tries settings spare printed i0 i n0 n o0 o3 s
+    by_status Done p = record {
+      tried = tried settings spare i0 i before after o0 o1 q.air h none q.is_air;
+      flips = p.noise;
+      took_flips = p.took;
+      of_noise = p.of_all;
+      wrote = wrote_more o0 o2 o3 (answer_lines h.session.answers ++ codes "---\n") (printed (noisy_bits q.air p.noise)) between p.wrote;
+    }
+    by_status FileFault p = record {
+      tried = tried settings spare i0 i before after o0 o1 q.air h none q.is_air;
+      heard = p.heard;
+      rest = p.rest;
+      air_is = p.bits_are;
+      flips = p.noise;
+      failed = p.failed;
+      wrote = wrote_more o0 o2 o3 (answer_lines h.session.answers ++ codes "---\n") (printed (noisy_bits p.heard p.noise)) between p.wrote;
+    }
+    by_status OutFault p = inr (record {
+      tried = tried settings spare i0 i before after o0 o1 q.air h none q.is_air;
+      heard = p.heard;
+      rest = p.rest;
+      air_is = p.bits_are;
+      flips = p.noise;
+      took_flips = p.took;
+      wrote = front_more o0 o2 o3 (answer_lines h.session.answers ++ codes "---\n") (printed (noisy_bits p.heard p.noise)) between p.wrote;
+    })
+    by_status Usage p = elim p [ ]
+    by_status Settings p = elim p [ ]
+    by_status WireFault p = elim p [ ]
+    by_status InputFault p = elim p [ ]
+    by_status NotBlock p = elim p [ ]
+    by_status BadSum p = elim p [ ]
+    by_status BadText p = elim p [ ]
+    by_status TooLong p = elim p [ ]
+    by_status LogonRefused p = elim p [ ]
+    by_status SomeUnsent p = elim p [ ]
+    by_status Memory p = elim p [ ]
+    by_status BadPages p = elim p [ ]
+
+pub live_none : (w : Pool) → w.live ≡ [] → pages w ≡ []
+live_none w e = ap (λ (es : List Live). map (λ (l : Live). l.page) es) e

@@ -1,0 +1,72 @@
+-- A run leaves a wire as many connections as it had.
+use Rattle.std.proofs.Common.{◌≡◌, inl, inr, ℕ, List, Option, Some, None, ◌∙◌, ap}
+use Rattle.subscribers.specs.Parts.{Parts}
+use Rattle.station.specs.declared.outcomes.Outcome.{Outcome}
+use Rattle.station.specs.declared.outcomes.Outcome.TheVariants.{Ended, Misread, Refused}
+use Rattle.station.specs.declared.statuses.Status.{Status}
+use Rattle.station.specs.declared.statuses.Status.TheVariants.{Done, FileFault, LogonRefused, Memory, OutFault, SomeUnsent, WireFault}
+use Rattle.tap_entry.specs.PagesFile.{Told}
+use Rattle.tap_entry.specs.declared.outcomes.Outcome.{Outcome as Sent}
+use Rattle.station.specs.declared.stages.Ending.{Ending}
+use Rattle.tap_entry.specs.declared.faults.PagesFault.TheVariants as Pages
+use Rattle.wires.specs.Line.{Line}
+use Rattle.wires.specs.Written.{Written}
+use Rattle.station.specs.Calls.{CallsUp, SendsSo}
+use Rattle.station.specs.SendRows.{SendRow}
+use Rattle.station.specs.Commands.{Command, One, Play, Send, Show, Station, Trial}
+use Rattle.station.specs.Rows.{Acts, Came, Objects, Outside, Runs}
+use Rattle.station.specs.Serving.{Around, HasServed}
+use Rattle.station.specs.StationRows.{StationRow, with_shelf}
+
+count-served : (settings : Parts) (spare : ℕ) (old new : Around) (name : List ℕ) (most : ℕ) (status : Status) → HasServed settings spare old new name most status → new.wire.count ≡ old.wire.count
+count-served settings spare old new name most Done h = h.wire.count
+count-served settings spare old new name most WireFault h = h.wire.count
+count-served settings spare old new name most FileFault (inl h) = ap (λ wire. wire.count) h.wire
+count-served settings spare old new name most FileFault (inr h) = h.wire.count
+count-served settings spare old new name most OutFault h = h.wire.count
+count-served settings spare old new name most other h = elim h [ ]
+
+count-station : (settings air : List ℕ) (count : ℕ) (old new : Around) (outcome : Outcome) → StationRow settings air count old new outcome → new.wire.count ≡ old.wire.count
+count-station settings air count old new (Refused fault) h = ap (λ wire. wire.count) h.1.wire
+count-station settings air count old new (Misread fault) h = elim h [ ]
+count-station settings air count old new (Ended Memory) h = ap (λ wire. wire.count) h.1.wire
+count-station settings air count old new (Ended FileFault) (inl h) = ap (λ wire. wire.count) h.1.wire
+count-station settings air count old new (Ended FileFault) (inr h) = count-served h.parts h.parts.cells (with_shelf old h.shelf) new air count FileFault h.served
+count-station settings air count old new (Ended status) h = count-served h.parts h.parts.cells (with_shelf old h.shelf) new air count status h.served
+
+count-call : (told : Told) (old new : Line) (outcomes : List Sent) (ending : Ending) → CallsUp told old new outcomes ending → new.count ≡ old.count
+count-call told old new outcomes ending (inl h) = h.came.line.count ∙ h.opens.count
+count-call told old new outcomes ending (inr h) = h.failed.count
+
+count-sends : (told : Told) (old new : Line) (out0 out1 : Written ℕ) (outcomes : List Sent) (status : Status) → SendsSo told old new out0 out1 outcomes status → new.count ≡ old.count
+count-sends told old new out0 out1 outcomes Done h = count-call told old new outcomes _ (inl h.0.called)
+count-sends told old new out0 out1 outcomes LogonRefused h = count-call told old new outcomes _ (inl h.0.called)
+count-sends told old new out0 out1 outcomes SomeUnsent h = count-call told old new outcomes _ (inl h.0.called)
+count-sends told old new out0 out1 outcomes WireFault h = count-call told old new outcomes h.0.0 h.0.1
+count-sends told old new out0 out1 outcomes OutFault h = count-call told old new outcomes h.0.0 h.0.1
+count-sends told old new out0 out1 outcomes other h = elim h [ ]
+
+count-send : (name : List ℕ) (old new : Around) (outcome : Outcome) → SendRow name old new outcome → new.wire.count ≡ old.wire.count
+count-send name old new (Refused fault) h = elim h [ ]
+count-send name old new (Misread Pages.Memory) h = elim h [ ]
+count-send name old new (Misread fault) h = ap (λ wire. wire.count) h.1.wire
+count-send name old new (Ended Memory) h = ap (λ wire. wire.count) h.1.wire
+count-send name old new (Ended FileFault) h = ap (λ wire. wire.count) h.1.wire
+count-send name old new (Ended status) h = count-sends h.told old.wire new.wire old.out new.out h.sends.outcomes status h.sends.sends
+
+came : (row : Status → Type 0) (outcome : Outcome) (x y : ℕ) → ((status : Status) → row status → x ≡ y) → Came row outcome → x ≡ y
+came row (Ended status) x y f h = f status h
+came row (Refused fault) x y f h = elim h [ ]
+came row (Misread fault) x y f h = elim h [ ]
+
+count-acts : (command : Option Command) (old new : Objects) (outcome : Outcome) → Acts command old new outcome → new.wire.count ≡ old.wire.count
+count-acts None old new outcome h = ap (λ objects. objects.wire.count) h.1
+count-acts (Some (One capcode)) old new outcome h = came _ outcome new.wire.count old.wire.count (λ status r. ap (λ wire. wire.count) r.wire) h
+count-acts (Some (Play air capcodes)) old new outcome h = came _ outcome new.wire.count old.wire.count (λ status r. ap (λ wire. wire.count) r.wire) h
+count-acts (Some (Show air)) old new outcome h = came _ outcome new.wire.count old.wire.count (λ status r. ap (λ wire. wire.count) r.wire) h
+count-acts (Some (Station address settings air count)) old new outcome h = count-station settings air count _ _ outcome h.row
+count-acts (Some (Trial settings noise capcodes)) old new outcome h = ap (λ wire. wire.count) h.wire
+count-acts (Some (Send address pages)) old new outcome h = count-send pages _ _ outcome h.row
+
+pub count-runs : (words : List (List ℕ)) (old new : Outside) (result : Status) → Runs words old new result → new.objects.wire.count ≡ old.objects.wire.count
+count-runs words old new result h = count-acts h.command old.objects new.objects h.outcome h.acts

@@ -1,0 +1,43 @@
+use Rattle.std.proofs.Common.{◌∙◌, refl, subst, Bool, List}
+use Rattle.wires.specs.Stacked.{noisy_bits}
+use Rattle.station.proofs.Listens.{prints_as}
+use Rattle.station.proofs.NoisyHeard.{few_now, prints_flipped, then_heard, through_all, through_begins, through_goes_on, through_unprinted, with_left}
+use Rattle.station.proofs.noise.listen_through.Goals as goal
+
+pub loop-bit-init : goal.loop-bit-init
+loop-bit-init g c = record {
+  same = refl;
+  tells = c.requires.told;
+  steady = c.requires.steady;
+  so_far = (
+    through_begins (g.P.Listener.printed c.args.listener.now) (g.A.BitSource.state c.args.bits.now).left (g.N.BitSource.state c.args.noise.now) (g.O.Sink.state c.args.out.now) c.requires.silent,
+    c.requires.none,
+  );
+}
+
+pub returns-in-Err-hear : goal.returns-in-Err-hear
+returns-in-Err-hear g c =
+    let v = c.loop-bit.invariant.so_far in
+    let p = prints_as _ _ _ _ _ _ _ c.loop-bit.invariant.same (c.in-Err-hear.ensures.prints (noisy_bits v.0.heard v.0.noise) (few_now _ _ _ _ _ _ _ _ v.0 c.requires.few) v.1) in
+    let h = with_left _ _ _ _ _ _ _ _ _ c.in-Some.ensures.gives v.0 in
+    through_unprinted _ _ _ _ _ _ _ _ _ _ _ c.in-Some.bit c.in-Ok.flip _ h c.in-Ok.ensures (prints_flipped _ _ c.in-Some.bit c.in-Ok.flip _ _ _ p)
+
+pub loop-bit-preserved : goal.loop-bit-preserved
+loop-bit-preserved g c =
+    let v = c.loop-bit.invariant.so_far in
+    let lt = few_now _ _ _ _ _ _ _ _ v.0 c.requires.few in
+    let p = prints_as _ _ _ _ _ _ _ c.loop-bit.invariant.same (c.in_default-hear.ensures.prints (noisy_bits v.0.heard v.0.noise) lt v.1) in
+    let h = with_left _ _ _ _ _ _ _ _ _ c.in-Some.ensures.gives v.0 in
+    record {
+      same = c.in_default-hear.ensures.same ∙ c.loop-bit.invariant.same;
+      tells = c.told_bit.ensures.told;
+      steady = c.told_bit.ensures.steady;
+      so_far = (
+        through_goes_on _ _ _ _ _ _ _ _ _ _ _ c.in-Some.bit c.in-Ok.flip _ h c.in-Ok.ensures (prints_flipped _ _ c.in-Some.bit c.in-Ok.flip _ _ _ p),
+        subst (λ (bits : List Bool). g.P.Listener.fed c.hear.new.self bits) (then_heard _ _ _ _ _ _ _ _ _ _ c.in-Some.bit c.in-Ok.flip h c.in-Ok.ensures)
+            (c.in_default-hear.ensures.fed (noisy_bits v.0.heard v.0.noise) lt v.1),
+      );
+    }
+
+pub returns : goal.returns
+returns g c = through_all _ _ _ _ _ _ _ _ c.in_default.ensures.gives c.loop-bit.invariant.so_far.0

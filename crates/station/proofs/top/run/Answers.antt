@@ -1,0 +1,12 @@
+use Rattle.station.proofs.Promised.{promised}
+use Rattle.station.proofs.top.run.Goals as goal
+
+pub returns : goal.returns
+returns g c = record {
+  command = _;
+  words_are = c.parse.ensures;
+  outcome = c.act-outcome.result;
+  acts = c.act-outcome.ensures;
+  promises = promised _ _ _ _ c.act-outcome.result c.act-outcome.ensures c.parse.ensures;
+  tells = c.tell_outcome.ensures;
+}

@@ -1,0 +1,84 @@
+-- A session that is read from an input, and whose answers are printed.
+use Rattle.std.specs.Prelude.{◌≡◌, ℕ, false, List, ◌++◌, IsTrue, Result, Ok, Err}
+use Rattle.page_pool.specs.Pool.{Pool, cells, pages}
+use Rattle.subscribers.specs.Parts.{Parts}
+use Rattle.tap_terminal.specs.Desk.{Desk}
+use Rattle.tap_terminal.specs.Session.{Session}
+use Rattle.wires.specs.Causes.{Rose}
+use Rattle.wires.specs.Left.{Left, Took}
+use Rattle.wires.specs.Written.{Written}
+use Rattle.station.specs.declared.answering.Course.{Course}
+use Rattle.station.specs.declared.answering.Course.TheVariants.{GoesOn, Ended}
+use Rattle.station.specs.declared.answering.InputEnd.{InputEnd}
+use Rattle.station.specs.declared.answering.InputEnd.TheVariants.{Answered, Broken, Unprinted}
+use Rattle.station.specs.Answers.{answer_lines}
+use Rattle.station.specs.Sessions.{SessionOf, StandsFor, has_end}
+use Rattle.station.specs.Talk.{IsFront}
+use Rattle.station.specs.Wrote.{Wrote, WroteFront}
+
+-- The pool gained the pages of a session.
+pub record GainedPages (session : Session) (before after : Pool) : Type 0 where
+  pub pages_are : pages after ≡ pages before ++ session.pages
+  pub cells_stay : cells after ≡ cells before
+
+-- A session is under way: of the bytes that were taken, these are still to be fed, and the others are answered. No End came.
+pub record Answering (settings : Parts) (spare : ℕ) (old now : Left ℕ) (before pool : Pool) (desk : Desk) (out0 out : Written ℕ) (taken ahead : List ℕ) : Type 0 where
+  pub fed : List ℕ
+  pub session : Session
+  pub taken_is : taken ≡ fed ++ ahead
+  pub took : Took old now taken
+  pub stands : StandsFor settings spare desk fed session pool.spare
+  pub no_end : has_end session.answers ≡ false
+  pub gained : GainedPages session before pool
+  pub wrote : Wrote out0 out (answer_lines session.answers)
+
+-- An End was answered: this is the session of the bytes that were taken, whatever follows them.
+pub record AnsweredToEnd (settings : Parts) (spare : ℕ) (old now : Left ℕ) (before pool : Pool) (out0 out : Written ℕ) (taken : List ℕ) : Type 0 where
+  pub session : Session
+  pub session_is : (more : List ℕ) → SessionOf settings spare (taken ++ more) session
+  pub took : Took old now taken
+  pub gained : GainedPages session before pool
+  pub wrote : Wrote out0 out (answer_lines session.answers)
+
+-- An answer couldn't be printed: a front of the lines was written of the answers to a front of what was taken.
+pub record AnsweredUnprinted (settings : Parts) (spare : ℕ) (old now : Left ℕ) (out0 out : Written ℕ) (taken : List ℕ) : Type 0 where
+  pub fed : List ℕ
+  pub fed_is : IsFront fed taken
+  pub session : Session
+  pub session_is : SessionOf settings spare fed session
+  pub took : Took old now taken
+  pub wrote : WroteFront out0 out (answer_lines session.answers)
+
+-- It goes on, it ended, or an answer couldn't be printed.
+abbrev pub AnswersOn : {E : Type 0} → Parts → ℕ → Left ℕ → Left ℕ → Pool → Pool → Desk → Written ℕ → Written ℕ → List ℕ → List ℕ → Result Course E → Type 0
+AnswersOn settings spare old now before pool desk out0 out taken ahead (Ok GoesOn) = Answering settings spare old now before pool desk out0 out taken ahead
+AnswersOn settings spare old now before pool desk out0 out taken ahead (Ok Ended) = AnsweredToEnd settings spare old now before pool out0 out taken
+AnswersOn settings spare old now before pool desk out0 out taken ahead (Err _) = AnsweredUnprinted settings spare old now out0 out taken
+
+-- The session of the input was answered: this is the session of all that was left, of which enough was taken. No call failed.
+pub record AnsweredInput (settings : Parts) (spare : ℕ) (old new : Left ℕ) (before after : Pool) (out0 out : Written ℕ) : Type 0 where
+  pub taken : List ℕ
+  pub took : Took old new taken
+  pub session : Session
+  pub session_is : SessionOf settings spare taken session
+  pub of_all : IsTrue old.tells → SessionOf settings spare old.left session
+  pub gained : GainedPages session before after
+  pub wrote : Wrote out0 out (answer_lines session.answers)
+
+-- A read failed after these bytes, which no steady input has. The answers to them were printed.
+pub record AnsweredBroken (settings : Parts) (spare : ℕ) (old new : Left ℕ) (out0 out : Written ℕ) : Type 0 where
+  pub taken : List ℕ
+  pub tells : new.tells ≡ old.tells
+  pub left : IsTrue old.tells → old.left ≡ taken ++ new.left
+  pub unsteady : IsTrue old.tells → IsTrue old.steady → ⊥
+  pub faults : Rose old.faults new.faults
+  pub lent : new.lent ≡ old.lent
+  pub session : Session
+  pub session_is : SessionOf settings spare taken session
+  pub wrote : Wrote out0 out (answer_lines session.answers)
+
+-- how the answers to an input ended
+abbrev pub AnswersInput : Parts → ℕ → Left ℕ → Left ℕ → Pool → Pool → Written ℕ → Written ℕ → InputEnd → Type 0
+AnswersInput settings spare old new before after out0 out Answered = AnsweredInput settings spare old new before after out0 out
+AnswersInput settings spare old new before after out0 out Broken = AnsweredBroken settings spare old new out0 out
+AnswersInput settings spare old new before after out0 out Unprinted = (taken : List ℕ) × AnsweredUnprinted settings spare old new out0 out taken

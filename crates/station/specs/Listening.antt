@@ -1,0 +1,70 @@
+-- Bits that were listened to, and what was printed of them.
+use Rattle.std.specs.Prelude.{◌≡◌, ℕ, ◌*◌, ◌≤◌, Bool, List, [], ◌∷◌, ◌++◌, length, Result, IsTrue}
+use Rattle.wires.specs.Causes.{Rose}
+use Rattle.wires.specs.Left.{Left, Took}
+use Rattle.wires.specs.Written.{Written, Puts}
+use Rattle.station.specs.declared.statuses.Status.{Status}
+use Rattle.station.specs.declared.statuses.Status.TheVariants.{Done, FileFault, OutFault, TooLong}
+use Rattle.station.specs.Wrote.{Wrote, WroteFront}
+
+-- of 67,108,864 bytes so many bits are listened to
+abbrev pub most_bits : ℕ
+most_bits = 8 * 67108864
+
+-- One bit more prints this piece more.
+pub record Prints {T E : Type 0} (printed : List Bool → List ℕ) (bits : List Bool) (bit : Bool) (old new : Written ℕ) (result : Result T E) : Type 0 where
+  pub piece : List ℕ
+  pub more : printed (bits ++ bit ∷ []) ≡ printed bits ++ piece
+  pub put : Puts old new piece result
+
+-- A read failed after these bits, and a fault was counted, which no steady source has.
+pub record FailedAfter (old new : Left Bool) (bits : List Bool) : Type 0 where
+  pub tells : new.tells ≡ old.tells
+  pub left : IsTrue old.tells → old.left ≡ bits ++ new.left
+  pub unsteady : IsTrue old.tells → IsTrue old.steady → ⊥
+  pub faults : Rose old.faults new.faults
+  pub lent : new.lent ≡ old.lent
+
+-- All bits were read, and what they give was printed.
+pub record ListenedToAll (printed : List Bool → List ℕ) (old new : Left Bool) (out0 out : Written ℕ) : Type 0 where
+  pub bits : List Bool
+  pub took : Took old new bits
+  pub whole : IsTrue old.tells → new.left ≡ []
+  pub few : length bits ≤ most_bits
+  pub wrote : Wrote out0 out (printed bits)
+
+-- As many bits were read as are listened to, and a further one follows. What they give was printed.
+pub record ListenedTooLong (printed : List Bool → List ℕ) (old new : Left Bool) (out0 out : Written ℕ) : Type 0 where
+  pub bits : List Bool
+  pub further : Bool
+  pub took : Took old new (bits ++ further ∷ [])
+  pub many : length bits ≡ most_bits
+  pub wrote : Wrote out0 out (printed bits)
+
+-- A read failed, and what the bits before it give was printed.
+pub record ListenedToFault (printed : List Bool → List ℕ) (old new : Left Bool) (out0 out : Written ℕ) : Type 0 where
+  pub bits : List Bool
+  pub failed : FailedAfter old new bits
+  pub wrote : Wrote out0 out (printed bits)
+
+-- A write failed, after a front of what the bits give that were read.
+pub record ListenedUnheard (printed : List Bool → List ℕ) (old new : Left Bool) (out0 out : Written ℕ) : Type 0 where
+  pub bits : List Bool
+  pub took : Took old new bits
+  pub few : length bits ≤ most_bits
+  pub wrote : WroteFront out0 out (printed bits)
+
+-- What was listened to and printed, by status. `printed` says what a list of bits gives.
+abbrev pub Listens : (List Bool → List ℕ) → Left Bool → Left Bool → Written ℕ → Written ℕ → Status → Type 0
+Listens printed old new out0 out Done = ListenedToAll printed old new out0 out
+Listens printed old new out0 out TooLong = ListenedTooLong printed old new out0 out
+Listens printed old new out0 out FileFault = ListenedToFault printed old new out0 out
+Listens printed old new out0 out OutFault = ListenedUnheard printed old new out0 out
+Listens printed old new out0 out other = ⊥
+
+-- Listening is under way: these bits were read, and what they give was printed.
+pub record ListeningTo (printed : List Bool → List ℕ) (old now : Left Bool) (out0 out : Written ℕ) (n : ℕ) : Type 0 where
+  pub bits : List Bool
+  pub took : Took old now bits
+  pub many : length bits ≡ n
+  pub wrote : Wrote out0 out (printed bits)

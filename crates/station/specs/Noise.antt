@@ -1,0 +1,64 @@
+-- Bits that were listened to through a noise, and what was printed of them.
+use Rattle.std.specs.Prelude.{◌≡◌, ℕ, ◌≤◌, Bool, true, false, List, [], ◌∷◌, ◌++◌, length, Result, Ok, Err, IsTrue}
+use Rattle.wires.specs.Left.{Left, Took}
+use Rattle.wires.specs.Stacked.{noisy_bits}
+use Rattle.wires.specs.Written.{Written}
+use Rattle.station.specs.declared.statuses.Status.{Status}
+use Rattle.station.specs.declared.statuses.Status.TheVariants.{Done, FileFault, OutFault}
+use Rattle.station.specs.Listening.{FailedAfter}
+use Rattle.station.specs.Wrote.{Wrote, WroteFront}
+
+-- The next bit of a noise was given, by whether the noise had ended before and has ended now. Behind its end all bits are 0.
+abbrev pub NoiseGives : {E : Type 0} → Bool → Bool → Left Bool → Left Bool → Result Bool E → Type 0
+NoiseGives false false old new (Ok bit) = Took old new (bit ∷ [])
+NoiseGives false true old new (Ok bit) = (bit ≡ false) × Took old new [] × (IsTrue old.tells → new.left ≡ [])
+NoiseGives true true old new (Ok bit) = (bit ≡ false) × (new ≡ old)
+NoiseGives true false old new (Ok bit) = ⊥
+NoiseGives false after old new (Err _) = FailedAfter old new []
+NoiseGives true after old new (Err _) = ⊥
+
+-- All bits were heard, each xor the noise's bit, and what they give was printed.
+pub record HeardThrough (printed : List Bool → List ℕ) (bits : List Bool) (old new : Left Bool) (out0 out : Written ℕ) : Type 0 where
+  pub noise : List Bool
+  pub took : Took old new noise
+  pub of_all : IsTrue old.tells → noisy_bits bits noise ≡ noisy_bits bits old.left
+  pub wrote : Wrote out0 out (printed (noisy_bits bits noise))
+
+-- The noise failed. What the bits before give was printed.
+pub record NoiseFailed (printed : List Bool → List ℕ) (bits : List Bool) (old new : Left Bool) (out0 out : Written ℕ) : Type 0 where
+  pub heard : List Bool
+  pub rest : List Bool
+  pub bits_are : bits ≡ heard ++ rest
+  pub noise : List Bool
+  pub failed : FailedAfter old new noise
+  pub wrote : Wrote out0 out (printed (noisy_bits heard noise))
+
+-- A write failed, after a front of what the bits give that were heard.
+pub record HeardUnprinted (printed : List Bool → List ℕ) (bits : List Bool) (old new : Left Bool) (out0 out : Written ℕ) : Type 0 where
+  pub heard : List Bool
+  pub rest : List Bool
+  pub bits_are : bits ≡ heard ++ rest
+  pub noise : List Bool
+  pub took : Took old new noise
+  pub wrote : WroteFront out0 out (printed (noisy_bits heard noise))
+
+-- what was heard through a noise and printed, by status
+abbrev pub ListensThrough : (List Bool → List ℕ) → List Bool → Left Bool → Left Bool → Written ℕ → Written ℕ → Status → Type 0
+ListensThrough printed bits old new out0 out Done = HeardThrough printed bits old new out0 out
+ListensThrough printed bits old new out0 out FileFault = NoiseFailed printed bits old new out0 out
+ListensThrough printed bits old new out0 out OutFault = HeardUnprinted printed bits old new out0 out
+ListensThrough printed bits old new out0 out other = ⊥
+
+-- what the noise has been: of its bits as many as were heard, or all
+abbrev pub NoiseSoFar : Bool → Left Bool → List Bool → List Bool → Type 0
+NoiseSoFar false now heard noise = length noise ≡ length heard
+NoiseSoFar true now heard noise = (length noise ≤ length heard) × (IsTrue now.tells → now.left ≡ [])
+
+-- Listening through a noise is under way.
+pub record ListeningThrough (printed : List Bool → List ℕ) (bits left : List Bool) (ended : Bool) (old now : Left Bool) (out0 out : Written ℕ) : Type 0 where
+  pub heard : List Bool
+  pub bits_are : bits ≡ heard ++ left
+  pub noise : List Bool
+  pub took : Took old now noise
+  pub so_far : NoiseSoFar ended now heard noise
+  pub wrote : Wrote out0 out (printed (noisy_bits heard noise))

@@ -1,0 +1,57 @@
+-- What a run promises of the pages that receivers hear.
+use Rattle.std.specs.Prelude.{◌≡◌, ℕ, Bool, true, false, List, [], ◌∷◌, map, IsTrue, All}
+use Rattle.bits.specs.Bits.{bytes_bits}
+use Rattle.page_text.specs.Page.{Page, IsAcceptable}
+use Rattle.air.specs.Near.{IsAirs, Near}
+use Rattle.receiver.specs.Listeners.{is_one_of}
+use Rattle.subscribers.specs.Parts.{Parts}
+use Rattle.wires.specs.Files.{Files}
+use Rattle.wires.specs.Left.{Left}
+use Rattle.wires.specs.Stacked.{noisy_bits}
+use Rattle.wires.specs.Written.{Written}
+use Rattle.station.specs.declared.outcomes.Outcome.{Outcome}
+use Rattle.station.specs.declared.outcomes.Outcome.TheVariants.{Ended}
+use Rattle.station.specs.declared.statuses.Status.TheVariants.{Done}
+use Rattle.station.specs.NearAir.{joined, pages_of}
+use Rattle.station.specs.PageLines.{pages_heard}
+use Rattle.station.specs.Served.{Served, airs}
+use Rattle.station.specs.Serving.{Around}
+use Rattle.station.specs.StationRows.{StationRow, TrialRow}
+
+-- Of each of these capcodes exactly its pages in these lists are heard in the bits, in order, each with its text.
+abbrev pub HearLists : List ℕ → List (List Page) → List Bool → Type 0
+HearLists capcodes lists bits = (capcode : ℕ) → is_one_of capcodes capcode ≡ true → pages_of capcode (pages_heard capcodes bits) ≡ pages_of capcode (joined lists)
+
+-- This is so where the bits are near the transmissions of lists of acceptable pages: every preamble is as it was sent, and every word
+-- after it has at most two wrong bits.
+abbrev pub HearNear : List ℕ → List Bool → Type 0
+HearNear capcodes bits = (lists : List (List Page)) → All (All IsAcceptable) lists → Near lists bits → HearLists capcodes lists bits
+
+-- The bits that were heard in a trial are those of the transmission, each xor the bit of the noise in its place. Where they are near the
+-- transmission, and where no bit of the noise is 1, exactly the pages that the session accepted are heard.
+pub record HearsTrial (capcodes : List ℕ) (pages : List Page) (air flips noise : List Bool) : Type 0 where
+  pub bits : noisy_bits air flips ≡ noisy_bits air noise
+  pub near : Near (pages ∷ []) (noisy_bits air flips) → HearLists capcodes (pages ∷ []) (noisy_bits air flips)
+  pub silent : All (λ bit. bit ≡ false) noise → HearLists capcodes (pages ∷ []) (noisy_bits air flips)
+
+-- what a trial promises, where it came to Done
+abbrev pub TrialPromise : (settings noise capcodes : List ℕ) (input0 input : Left ℕ) (old new : Files) (out0 out : Written ℕ) (outcome : Outcome)
+    → TrialRow settings noise capcodes input0 input old new out0 out outcome → Type 0
+TrialPromise settings noise capcodes input0 input old new out0 out (Ended Done) row =
+    IsTrue old.tells → HearsTrial capcodes row.tried.tries.tried.session.pages row.tried.tries.tried.air row.tried.tries.flips (bytes_bits (old.file noise))
+TrialPromise settings noise capcodes input0 input old new out0 out outcome row = Unit {0}
+
+-- the pages that sessions accepted, session by session
+abbrev pub accepted_in : {settings : Parts} {spare : ℕ} → List (Served settings spare) → List (List Page)
+accepted_in sessions = map (λ s. s.ran.session.pages) sessions
+
+-- The pages that sessions accepted are acceptable, and these are their transmissions, one after another.
+pub record SendsAccepted (lists : List (List Page)) (bits : List Bool) : Type 0 where
+  pub acceptable : All (All IsAcceptable) lists
+  pub airs : IsAirs lists bits
+
+-- what serving connections promises, where it came to Done
+abbrev pub StationPromise : (settings air : List ℕ) (count : ℕ) (old new : Around) (outcome : Outcome) → StationRow settings air count old new outcome → Type 0
+StationPromise settings air count old new (Ended Done) row =
+    IsTrue old.shelf.tells → SendsAccepted (accepted_in row.served.sessions) (airs row.served.sessions)
+StationPromise settings air count old new outcome row = Unit {0}

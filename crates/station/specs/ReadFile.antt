@@ -1,0 +1,69 @@
+-- Files that are read into memory, and the settings that one gives.
+use Rattle.std.specs.Prelude.{◌≡◌, ℕ, List, take, Result, Ok, Err, IsTrue, Vec}
+use Rattle.std.specs.declared.alloc.Global.{Global}
+use Rattle.subscribers.specs.Parts.{Parts}
+use Rattle.subscribers.specs.Settings.{settings_of}
+use Rattle.subscribers.specs.declared.faults.SettingsFault.{SettingsFault}
+use Rattle.subscribers.specs.declared.faults.SettingsFault.TheVariants.{Memory as NoMemory}
+use Rattle.wires.specs.Causes.{Rose}
+use Rattle.wires.specs.Files.{Files, all_files}
+use Rattle.station.specs.declared.files.Unread.{Unread}
+use Rattle.station.specs.declared.files.Unread.TheVariants as NotRead
+use Rattle.station.specs.declared.opening.Unopened.{Unopened}
+use Rattle.station.specs.declared.opening.Unopened.TheVariants as NotOpened
+
+-- of a settings file so many bytes are read at most: one more than it may have
+abbrev pub most_of_file : ℕ
+most_of_file = 1048577
+
+-- No file of the shelf changed.
+pub record KeepsFiles (old new : Files) : Type 0 where
+  pub tells : new.tells ≡ old.tells
+  pub files : all_files new ≡ all_files old
+  pub lent : new.lent ≡ old.lent
+
+-- A file was read, and no fault was counted. A steady shelf is steady.
+pub record Unharmed (name : List ℕ) (old new : Files) : Type 0 where
+  pub kept : KeepsFiles old new
+  pub faults : new.faults ≡ old.faults
+  pub steady : IsTrue old.tells → IsTrue old.steady → IsTrue (old.there name) → IsTrue new.steady
+
+-- Reading a file failed, which it doesn't on a steady shelf where the name is there.
+pub record Unreadable (name : List ℕ) (old new : Files) : Type 0 where
+  pub kept : KeepsFiles old new
+  pub unsteady : IsTrue old.tells → IsTrue old.steady → IsTrue (old.there name) → ⊥
+  pub faults : Rose old.faults new.faults
+
+-- The file was read into memory, as far as it is read at most.
+pub record ReadInto (name : List ℕ) (old new : Files) (bytes : List ℕ) : Type 0 where
+  pub unharmed : Unharmed name old new
+  pub bytes_are : IsTrue old.tells → bytes ≡ take most_of_file (old.file name)
+
+-- a read of a file into memory
+abbrev pub ReadsFile : List ℕ → Files → Files → Result (Vec ℕ Global) Unread → Type 0
+ReadsFile name old new (Ok bytes) = ReadInto name old new bytes.items
+ReadsFile name old new (Err NotRead.Fault) = Unreadable name old new
+ReadsFile name old new (Err NotRead.Memory) = Unharmed name old new
+
+-- The file was read, and gives these settings.
+pub record ReadSettings (name : List ℕ) (old new : Files) (settings : Parts) : Type 0 where
+  pub unharmed : Unharmed name old new
+  pub settings_are : IsTrue old.tells → settings_of (old.file name) ≡ Ok settings
+
+-- The file was read, and is refused for this fault.
+pub record RefusedSettings (name : List ℕ) (old new : Files) (fault : SettingsFault) : Type 0 where
+  pub unharmed : Unharmed name old new
+  pub refused : IsTrue old.tells → settings_of (old.file name) ≡ Err fault
+
+-- a read of a settings file
+abbrev pub ReadsSettings : List ℕ → Files → Files → Result Parts Unopened → Type 0
+ReadsSettings name old new (Ok settings) = ReadSettings name old new settings
+ReadsSettings name old new (Err NotOpened.Fault) = Unreadable name old new
+ReadsSettings name old new (Err NotOpened.Memory) = Unharmed name old new
+ReadsSettings name old new (Err (NotOpened.Refused fault)) = RefusedSettings name old new fault
+
+-- why there are no settings, by the fault of their file
+abbrev pub IsUnopened : SettingsFault → Unopened → Type 0
+IsUnopened fault NotOpened.Fault = ⊥
+IsUnopened fault NotOpened.Memory = fault ≡ NoMemory
+IsUnopened fault (NotOpened.Refused other) = (other ≡ fault) × (fault ≡ NoMemory → ⊥)

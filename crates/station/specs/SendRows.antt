@@ -1,0 +1,45 @@
+-- The command `send`, from its pages on.
+use Rattle.std.specs.Prelude.{◌≡◌, ℕ, List, IsTrue}
+use Rattle.tap_entry.specs.PagesFile.{IsFile, IsRefused, Told}
+use Rattle.tap_entry.specs.declared.faults.PagesFault.{PagesFault}
+use Rattle.tap_entry.specs.declared.faults.PagesFault.TheVariants as Pages
+use Rattle.wires.specs.Files.{Files}
+use Rattle.station.specs.declared.outcomes.Outcome.{Outcome}
+use Rattle.station.specs.declared.outcomes.Outcome.TheVariants.{Ended, Misread, Refused}
+use Rattle.station.specs.declared.statuses.Status.{Status}
+use Rattle.station.specs.declared.statuses.Status.TheVariants.{FileFault, Memory}
+use Rattle.station.specs.Calls.{HasSent}
+use Rattle.station.specs.ReadFile.{Unharmed, Unreadable}
+use Rattle.station.specs.Serving.{Around}
+use Rattle.station.specs.StationRows.{KeepsAround}
+
+-- The file was read, and says these pages.
+pub record ReadPages (name : List ℕ) (old new : Files) (told : Told) : Type 0 where
+  pub unharmed : Unharmed name old new
+  pub pages_are : IsTrue old.tells → IsFile (old.file name) told
+
+-- The file was read, and is refused for this fault.
+pub record RefusedPages (name : List ℕ) (old new : Files) (fault : PagesFault) : Type 0 where
+  pub unharmed : Unharmed name old new
+  pub refused : IsTrue old.tells → IsRefused (old.file name) fault
+
+-- The pages were read, and a client sent them. No file changed.
+pub record SentBy (name : List ℕ) (old new : Around) (status : Status) : Type 0 where
+  pub told : Told
+  pub read : ReadPages name old.shelf new.shelf told
+  pub sends : HasSent told old.wire new.wire old.out new.out status
+
+-- `send`, by what it came to
+abbrev pub SendRow : List ℕ → Around → Around → Outcome → Type 0
+SendRow name old new (Refused fault) = ⊥
+SendRow name old new (Misread Pages.Memory) = ⊥
+SendRow name old new (Misread fault) = RefusedPages name old.shelf new.shelf fault × KeepsAround old new
+SendRow name old new (Ended Memory) = Unharmed name old.shelf new.shelf × KeepsAround old new
+SendRow name old new (Ended FileFault) = Unreadable name old.shelf new.shelf × KeepsAround old new
+SendRow name old new (Ended status) = SentBy name old new status
+
+-- what a command comes to whose pages file is refused, by the fault of the file
+abbrev pub ComesWithout : PagesFault → Outcome → Type 0
+ComesWithout fault (Ended status) = (status ≡ Memory) × (fault ≡ Pages.Memory)
+ComesWithout fault (Refused other) = ⊥
+ComesWithout fault (Misread other) = (other ≡ fault) × (fault ≡ Pages.Memory → ⊥)

@@ -1,0 +1,80 @@
+-- The commands `station` and `trial`, from their settings on.
+use Rattle.std.specs.Prelude.{◌≡◌, ◌⊎◌, ℕ, ◌&&◌, Bool, List}
+use Rattle.bits.specs.Bits.{bytes_bits}
+use Rattle.subscribers.specs.Parts.{Parts}
+use Rattle.wires.specs.Files.{Files}
+use Rattle.wires.specs.Left.{Left}
+use Rattle.wires.specs.Written.{Written}
+use Rattle.station.specs.declared.opening.Unopened.{Unopened}
+use Rattle.station.specs.declared.opening.Unopened.TheVariants as NotOpened
+use Rattle.station.specs.declared.outcomes.Outcome.{Outcome}
+use Rattle.station.specs.declared.outcomes.Outcome.TheVariants.{Ended, Misread, Refused}
+use Rattle.station.specs.declared.statuses.Status.{Status}
+use Rattle.station.specs.declared.statuses.Status.TheVariants.{FileFault, Memory}
+use Rattle.station.specs.PageLines.{play_lines}
+use Rattle.station.specs.ReadFile.{KeepsFiles, ReadSettings, RefusedSettings, Unharmed, Unreadable}
+use Rattle.station.specs.Serving.{Around, HasServed}
+use Rattle.station.specs.Trying.{Tries}
+
+-- with this shelf in place of its own
+abbrev pub with_shelf : Around → Files → Around
+with_shelf around shelf = record { wire = around.wire; shelf = shelf; out = around.out }
+
+-- The settings were read, and connections were served by them, with as many spare cells as they say.
+pub record ServedBy (settings air : List ℕ) (count : ℕ) (old new : Around) (status : Status) : Type 0 where
+  pub parts : Parts
+  pub shelf : Files
+  pub read : ReadSettings settings old.shelf shelf parts
+  pub served : HasServed parts parts.cells (with_shelf old shelf) new air count status
+
+-- Wire and output are as they were.
+pub record KeepsAround (old new : Around) : Type 0 where
+  pub wire : new.wire ≡ old.wire
+  pub out : new.out ≡ old.out
+
+-- `station`, by what it came to
+abbrev pub StationRow : List ℕ → List ℕ → ℕ → Around → Around → Outcome → Type 0
+StationRow settings air count old new (Refused fault) = RefusedSettings settings old.shelf new.shelf fault × KeepsAround old new
+StationRow settings air count old new (Misread fault) = ⊥
+StationRow settings air count old new (Ended Memory) = Unharmed settings old.shelf new.shelf × KeepsAround old new
+StationRow settings air count old new (Ended FileFault) =
+    (Unreadable settings old.shelf new.shelf × KeepsAround old new) ⊎ ServedBy settings air count old new FileFault
+StationRow settings air count old new (Ended status) = ServedBy settings air count old new status
+
+-- these are the bits of a file's bytes
+pub record AreFileBits (name : List ℕ) (shelf : Files) (bits : Left Bool) : Type 0 where
+  pub tells : bits.tells ≡ shelf.tells
+  pub left : bits.left ≡ bytes_bits (shelf.file name)
+  pub steady : bits.steady ≡ (shelf.steady && shelf.there name)
+  pub faults : bits.faults ≡ shelf.faults
+
+-- The session of an input was tried, with the bits of a file as noise, of which `rest` is left. No file changed.
+pub record TriesFile (parts : Parts) (spare : ℕ) (printed : List Bool → List ℕ) (noise : List ℕ) (input0 input : Left ℕ) (old new : Files) (out0 out : Written ℕ) (status : Status) : Type 0 where
+  pub bits : Left Bool
+  pub rest : Left Bool
+  pub bits_are : AreFileBits noise old bits
+  pub tries : Tries parts spare printed input0 input bits rest out0 out status
+  pub kept : KeepsFiles old new
+  pub faults : new.faults ≡ rest.faults
+
+-- The settings were read, and the session of the input tried by them.
+pub record TriedBy (settings noise capcodes : List ℕ) (input0 input : Left ℕ) (old new : Files) (out0 out : Written ℕ) (status : Status) : Type 0 where
+  pub parts : Parts
+  pub shelf : Files
+  pub read : ReadSettings settings old shelf parts
+  pub tried : TriesFile parts parts.cells (play_lines capcodes) noise input0 input shelf new out0 out status
+
+-- `trial`, by what it came to
+abbrev pub TrialRow : List ℕ → List ℕ → List ℕ → Left ℕ → Left ℕ → Files → Files → Written ℕ → Written ℕ → Outcome → Type 0
+TrialRow settings noise capcodes input0 input old new out0 out (Refused fault) = RefusedSettings settings old new fault × (input ≡ input0) × (out ≡ out0)
+TrialRow settings noise capcodes input0 input old new out0 out (Misread fault) = ⊥
+TrialRow settings noise capcodes input0 input old new out0 out (Ended Memory) = Unharmed settings old new × (input ≡ input0) × (out ≡ out0)
+TrialRow settings noise capcodes input0 input old new out0 out (Ended FileFault) =
+    (Unreadable settings old new × (input ≡ input0) × (out ≡ out0)) ⊎ TriedBy settings noise capcodes input0 input old new out0 out FileFault
+TrialRow settings noise capcodes input0 input old new out0 out (Ended status) = TriedBy settings noise capcodes input0 input old new out0 out status
+
+-- what a command without settings comes to, by why it has none
+abbrev pub ComesTo : Unopened → Outcome → Type 0
+ComesTo NotOpened.Fault outcome = outcome ≡ Ended FileFault
+ComesTo NotOpened.Memory outcome = outcome ≡ Ended Memory
+ComesTo (NotOpened.Refused fault) outcome = outcome ≡ Refused fault

@@ -1,0 +1,97 @@
+//! The commands `station` and `trial`, which read their settings from a file.
+
+ghost use Rattle.std.specs.Prelude.{◌≡◌, []};
+ghost use Rattle.receiver.specs.Listeners.{StandsFor as HasHeard};
+ghost use Rattle.station.specs.PageLines.{play_lines};
+ghost use Rattle.page_pool.specs.Pool.{cells};
+ghost use Rattle.station.specs.StationRows.{ComesTo, StationRow, TrialRow, TriesFile};
+
+use crate::capcodes::Capcodes;
+use crate::commands::StationLine;
+use crate::opening::{Unopened, read_settings};
+use crate::outcomes::Outcome;
+use crate::session::Station;
+use crate::statuses::Status;
+use receiver::Group;
+use std::alloc::Global;
+use wires::Memory;
+use wires::byte_bits::ShelfBits;
+use wires::shelf::Shelf;
+use wires::sink::Sink;
+use wires::source::Source;
+use wires::wire::Wire;
+
+/// What a command without settings comes to.
+fn without_settings(why: Unopened) -> Outcome
+    ensures { ComesTo why result }
+{
+    match why {
+        Unopened::Fault => Outcome::Ended(Status::FileFault),
+        Unopened::Memory => Outcome::Ended(Status::Memory),
+        Unopened::Refused(fault) => Outcome::Refused(fault),
+    }
+}
+
+/// Runs `station`.
+pub(crate) fn run_station<W: Wire, F: Shelf, O: Sink>(
+    alloc: Global,
+    line: &StationLine<'_>,
+    wire: &mut W,
+    shelf: &mut F,
+    out: &mut O,
+) -> Outcome
+    ensures { StationRow line.now.settings.now line.now.air.now line.now.count
+        (record { wire = W.state wire.old; shelf = F.state shelf.old; out = O.state out.old })
+        (record { wire = W.state wire.new; shelf = F.state shelf.new; out = O.state out.new }) result }
+{
+    let settings = match read_settings(alloc, shelf, line.settings) {
+        Ok(settings) => settings,
+        Err(why) => return without_settings(why),
+    };
+    let Ok(mut station) = Station::new(alloc, settings) else {
+        return Outcome::Ended(Status::Memory);
+    };
+    Outcome::Ended(station.serve(wire, shelf, line.address, line.air, line.count, out))
+}
+
+/// Runs `trial`.
+pub(crate) fn run_trial<F: Shelf, I: Source, O: Sink>(
+    alloc: Global,
+    settings: &str,
+    noise: &str,
+    capcodes: &Capcodes,
+    shelf: &mut F,
+    input: &mut I,
+    out: &mut O,
+) -> Outcome
+    ensures { TrialRow settings.now noise.now capcodes.now (I.state input.old) (I.state input.new) (F.state shelf.old) (F.state shelf.new) (O.state out.old) (O.state out.new) result }
+{
+    let settings = match read_settings(alloc, shelf, settings) {
+        Ok(settings) => settings,
+        Err(why) => return without_settings(why),
+    };
+    let Ok(mut group) = Group::new(alloc, capcodes.as_slice()) else {
+        return Outcome::Ended(Status::Memory);
+    };
+    let Ok(mut station) = Station::new(alloc, settings) else {
+        return Outcome::Ended(Status::Memory);
+    };
+    Outcome::Ended(try_file(&mut station, noise, &mut group, shelf, input, out))
+}
+
+/// Tries the session of the input, with the bits of a file as noise.
+fn try_file<F: Shelf, I: Source, O: Sink>(
+    station: &mut Station,
+    noise: &str,
+    group: &mut Group,
+    shelf: &mut F,
+    input: &mut I,
+    out: &mut O,
+) -> Status
+    requires { HasHeard group.old [] }
+    ensures { TriesFile station.old.settings (cells station.old.pool) (play_lines group.old.capcodes) noise.now (I.state input.old) (I.state input.new) (F.state shelf.old) (F.state shelf.new)
+        (O.state out.old) (O.state out.new) result }
+{
+    let mut bits = ShelfBits::over(shelf, noise);
+    station.trial(input, &mut bits, group, out)
+}
