@@ -1,0 +1,126 @@
+"""Times the station over loopback. `run.sh` in this folder starts it: client.py PROGRAM FOLDER."""
+
+import pathlib
+import socket
+import subprocess
+import sys
+import threading
+import time
+
+PROGRAM, FOLDER = sys.argv[1], pathlib.Path(sys.argv[2])
+ADDRESS = ("127.0.0.1", 24517)
+TIMES = 5
+LOGON = b"\r\x1bPG1\r"
+GO = b"ID=\x06\r\x1b[p\r"
+GOODBYE = b"\x04\r"
+END = b"\x1b\x04\r"
+ACK = b"\x06\r"
+SETTINGS = 'cells = 65536\nsubscriber = [{id = "5551234", capcode = 8, class = "alpha"}]\n'
+
+
+def block(text):
+    """A block with the end ETX, for the one subscriber."""
+    front = b"\x025551234\r" + text + b"\r\x03"
+    total = sum(front) % 4096
+    return front + bytes(0x30 + (total >> at & 15) for at in (8, 4, 0)) + b"\r"
+
+
+class Station:
+    """A station that serves so many connections. At its end it was waited for."""
+
+    def __init__(self, connections):
+        address = f"{ADDRESS[0]}:{ADDRESS[1]}"
+        words = [PROGRAM, "station", address, FOLDER / "settings.toml", FOLDER / "air.bin", str(connections)]
+        with (FOLDER / "report").open("w") as report:
+            self.process = subprocess.Popen(words, stdout=report)
+
+    def dial(self):
+        for _ in range(1000):
+            try:
+                line = socket.create_connection(ADDRESS, 60)
+                line.setsockopt(socket.IPPROTO_TCP, socket.TCP_NODELAY, 1)
+                return line
+            except ConnectionRefusedError:
+                time.sleep(0.01)
+        sys.exit("the station doesn't listen")
+
+    def ends(self, pages):
+        self.process.wait(60)
+        report = (FOLDER / "report").read_text()
+        counted = sum(int(line.split()[4]) for line in report.splitlines())
+        if self.process.returncode != 0 or counted != pages:
+            sys.exit(f"{self.process.returncode} {report}")
+
+
+def hear(line, size):
+    """So many bytes from the line."""
+    heard = b""
+    while len(heard) < size:
+        piece = line.recv(65536)
+        if not piece:
+            break
+        heard += piece
+    return heard
+
+
+def whole(text):
+    """A session of nearly 1,000,000 characters, said at once: seconds to the End, and to the end of the program."""
+    one = block(text)
+    count = (1_000_000 - 1 - len(LOGON) - len(GOODBYE)) // len(one)
+    session = LOGON + one * count + GOODBYE
+    wanted = GO + ACK * count + END
+    station = Station(1)
+    line = station.dial()
+    start = time.perf_counter()
+    threading.Thread(target=line.sendall, args=(session,)).start()
+    heard = hear(line, len(wanted))
+    replied = time.perf_counter() - start
+    assert heard == wanted
+    line.close()
+    station.ends(count)
+    return replied, time.perf_counter() - start, len(session), count
+
+
+def in_turn(count):
+    """One session whose blocks are each said when the reply to the one before was heard: seconds."""
+    one = block(b"HELLO")
+    station = Station(1)
+    line = station.dial()
+    start = time.perf_counter()
+    line.sendall(LOGON)
+    assert hear(line, len(GO)) == GO
+    for _ in range(count):
+        line.sendall(one)
+        assert hear(line, len(ACK)) == ACK
+    line.sendall(GOODBYE)
+    assert hear(line, len(END)) == END
+    line.close()
+    station.ends(count)
+    return time.perf_counter() - start
+
+
+def sessions(count):
+    """Sessions one after another, each with one page and each reply heard before more is said: seconds."""
+    one = block(b"HELLO")
+    station = Station(count)
+    start = None
+    for _ in range(count):
+        line = station.dial()
+        start = start or time.perf_counter()
+        for said, heard in ((LOGON, GO), (one, ACK), (GOODBYE, END)):
+            line.sendall(said)
+            assert hear(line, len(heard)) == heard
+        line.close()
+    station.ends(count)
+    return time.perf_counter() - start
+
+
+(FOLDER / "settings.toml").write_text(SETTINGS)
+for text in (b"HELLO", b"x" * 241):
+    replied, ended, size, count = min(whole(text) for _ in range(TIMES))
+    print(f"{size} characters, {count} blocks, said at once: {replied:.3f} s to the End, {ended:.3f} s to the end of the program")
+for count in (1000, 10000):
+    best = min(in_turn(count) for _ in range(TIMES))
+    print(f"{count} blocks in one session, each after the reply to the one before: {best:.3f} s, {count / best:.0f} pages a second")
+best = min(sessions(1000) for _ in range(TIMES))
+print(f"1000 sessions of one page: {best:.3f} s, {1000 / best:.0f} sessions a second")
