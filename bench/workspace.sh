@@ -1,5 +1,5 @@
-# For the measuring programs, which source it from a folder beside it: `workspace CRATE..` copies the named crates into a workspace
-# of their own, with their lines of crates.txt. `$work` is its folder, which is removed at the end.
+# For the measuring programs, which source it from a folder beside it. `$here` is their folder, `$top` the repository's, and `$work` a
+# fresh one, which is removed at the end. `workspace CRATE..` copies the named crates into it, with their lines of crates.txt.
 here=$(CDPATH= cd -- "$(dirname -- "$0")" && pwd)
 top=$(CDPATH= cd -- "$here/../.." && pwd)
 work=$(mktemp -d)

@@ -2,10 +2,8 @@
 # Times `play` of the built program over the longest files that it hears, beside the same receiver in plain Rust. It wants rt, rustc,
 # Python 3, and 134 MB of room for the files.
 set -eu
-here=$(CDPATH= cd -- "$(dirname -- "$0")" && pwd)
-top=$(CDPATH= cd -- "$here/../.." && pwd)
-work=$(mktemp -d)
-trap 'rm -rf "$work"' EXIT
+. "$(dirname -- "$0")/../workspace.sh"
+
 "$top/pocsag" one 8 <"$top/examples/abc.tap" >/dev/null
 rustc --edition 2024 -O -C target-cpu=x86-64-v2 -o "$work/plain" "$here/plain.rs"
 python3 - "$work" "$top/crates/page_tool/out/page_tool" <<'PY'

@@ -1,6 +1,9 @@
 //! How long the proved `Receiver` takes for a bit beside the same algorithm in plain Rust, over random bits, over idle batches and over
 //! pages. `run.sh` in this folder builds and starts it.
 
+mod plain;
+
+use plain::{CAPCODE, Code, Plain, SYNC, long_division};
 use std::hint::black_box;
 use std::time::Instant;
 
@@ -10,23 +13,11 @@ const BYTES: usize = 1 << 18;
 /// Times taken of each; the least counts.
 const TIMES: u32 = 15;
 
-const GENERATOR: u32 = 0x769;
-const SYNC: u32 = 0x7CD2_15D8;
 const IDLE: u32 = 0x7A89_C197;
-const CAPCODE: u32 = 8;
 
 unsafe extern "C" {
     /// How many pages the proved receiver of this capcode hears in the bits of these bytes.
     fn hear_pages(capcode: u32, bytes: *const u8, count: usize) -> u32;
-}
-
-fn long_division(mut bits: u32) -> u32 {
-    for at in (10..=30).rev() {
-        if bits >> at & 1 == 1 {
-            bits ^= GENERATOR << (at - 10);
-        }
-    }
-    bits
 }
 
 fn codeword(front: u32) -> u32 {
@@ -34,106 +25,9 @@ fn codeword(front: u32) -> u32 {
     bits << 1 | bits.count_ones() & 1
 }
 
-/// The tables of the correction.
-struct Code {
-    low: [u32; 128],
-    middle: [u32; 128],
-    high: [u32; 128],
-    patterns: [u32; 1024],
-}
-
-impl Code {
-    fn new() -> Code {
-        let table = |shift: u32| std::array::from_fn(|i| long_division((i as u32) << shift));
-        let mut patterns = [0x7FFF_FFFF; 1024];
-        patterns[0] = 0;
-        for a in 0..31 {
-            patterns[long_division(1 << a) as usize] = 1 << a;
-            for b in 0..a {
-                patterns[long_division(1 << a | 1 << b) as usize] = 1 << a | 1 << b;
-            }
-        }
-        Code { low: table(10), middle: table(17), high: table(24), patterns }
-    }
-
-    fn correct(&self, w: u32) -> Option<u32> {
-        let heard = w >> 1;
-        let remainder = heard & 0x3FF
-            ^ self.low[(heard >> 10 & 0x7F) as usize]
-            ^ self.middle[(heard >> 17 & 0x7F) as usize]
-            ^ self.high[(heard >> 24) as usize];
-        let sent = heard ^ self.patterns[remainder as usize];
-        let v = sent << 1 | sent.count_ones() & 1;
-        if (w ^ v).count_ones() <= 2 { Some(v) } else { None }
-    }
-}
-
-fn is_sync(word: u32) -> bool {
-    (word ^ SYNC).count_ones() <= 2
-}
-
-/// A plain receiver.
-struct Plain {
-    is_locked: bool,
-    place: u32,
-    register: u32,
-    count: u32,
-    is_open: bool,
-    groups: Vec<u32>,
-}
-
-impl Plain {
-    /// Takes a bit, and says whether it completes a page.
-    fn feed(&mut self, code: &Code, bit: bool) -> bool {
-        self.register = self.register << 1 | u32::from(bit);
-        self.count += 1;
-        if !self.is_locked {
-            if self.count >= 32 {
-                self.count = 32;
-                self.is_locked = is_sync(self.register);
-                if self.is_locked {
-                    (self.place, self.count) = (0, 0);
-                }
-            }
-            return false;
-        }
-        if self.count < 32 {
-            return false;
-        }
-        self.count = 0;
-        if self.place < 16 {
-            self.place += 1;
-            return self.slot(code.correct(self.register), self.place - 1);
-        }
-        self.place = 0;
-        self.is_locked = is_sync(self.register);
-        self.is_open &= self.is_locked;
-        false
-    }
-
-    fn slot(&mut self, word: Option<u32>, place: u32) -> bool {
-        match word {
-            None => self.is_open = false,
-            Some(v) if v >> 31 == 1 => {
-                if self.is_open {
-                    self.is_open = self.groups.len() < 140;
-                    self.groups.push(v >> 11 & 0xF_FFFF);
-                }
-            }
-            Some(v) => {
-                let is_complete = self.is_open;
-                self.groups.clear();
-                self.is_open = 8 * (v >> 13) + place / 2 == CAPCODE;
-                return is_complete;
-            }
-        }
-        false
-    }
-}
-
 #[inline(never)]
 fn plain_pages(code: &Code, bytes: &[u8]) -> u32 {
-    let mut plain = Plain { is_locked: false, place: 0, register: 0, count: 0, is_open: false, groups: Vec::with_capacity(141) };
+    let mut plain = Plain::new();
     let mut pages = 0;
     for byte in bytes {
         for k in (0..8).rev() {
