@@ -1,7 +1,7 @@
 -- What a run promises of the pages that receivers hear.
-use Rattle.std.proofs.Common.{◌≡◌, ℕ, ◌==◌, Bool, true, false, ◌||◌, List, [], ◌∷◌, Option, Some, None, Ok, refl, sym, ◌∙◌, ap, ap₂, subst, append-nil, eqb-true}
+use Rattle.std.proofs.Common.{◌≡◌, ℕ, ◌==◌, Bool, true, false, ◌||◌, List, [], ◌∷◌, Option, Some, None, Ok, refl, sym, ◌∙◌, ap, ap₂, subst, append-nil, eqb-true, ◌++◌, inl, inr}
 use Rattle.std.proofs.lemmas.List.Elements.{All-nil, All-cons, All-head, All-tail}
-use Rattle.std.specs.Prelude.{IsTrue, All}
+use Rattle.std.specs.Prelude.{◌⊎◌, IsTrue, All}
 use Rattle.bits.specs.Bits.{bytes_bits, xor}
 use Rattle.codeword.specs.Capcodes.{IsUsable}
 use Rattle.page_text.specs.Page.{Page, IsAcceptable}
@@ -19,15 +19,15 @@ use Rattle.station.proofs.AcceptablePages.{are_acceptable}
 use Rattle.station.proofs.NearAir.{near_air}
 use Rattle.station.specs.declared.outcomes.Outcome.{Outcome}
 use Rattle.station.specs.declared.outcomes.Outcome.TheVariants.{Ended, Misread, Refused}
-use Rattle.station.specs.declared.statuses.Status.TheVariants.{Done, Usage}
+use Rattle.station.specs.declared.statuses.Status.TheVariants.{Done, FileFault, OutFault, Usage, WireFault}
 use Rattle.station.specs.Commands.{AreCommand, Command, One, Play, Say, Send, Show, Station, Trial}
 use Rattle.station.specs.NearAir.{AreUsable}
-use Rattle.station.specs.Promises.{HearNear, HearsTrial, StationPromise, TrialPromise, accepted_in}
-use Rattle.station.specs.ReadFile.{ReadSettings}
+use Rattle.station.specs.Promises.{FaultPromise, FilePromise, HearNear, HearsTrial, ServedSend, StationPromise, TrialPromise, accepted_in}
+use Rattle.station.specs.ReadFile.{ReadSettings, Unreadable}
 use Rattle.station.specs.Rows.{Acts, Objects, Promises}
 use Rattle.station.specs.Served.{Served, airs}
-use Rattle.station.specs.Serving.{Around}
-use Rattle.station.specs.StationRows.{AreFileBits, StationRow, TrialRow}
+use Rattle.station.specs.Serving.{Around, AtAppendFault, AtFreshFault}
+use Rattle.station.specs.StationRows.{AreFileBits, KeepsAround, ServedBy, StationRow, TrialRow, with_shelf}
 
 -- ---- capcodes of words are usable
 
@@ -108,14 +108,35 @@ acceptable_in bytes {settings = settings} {spare = spare} (s ∷ sessions) h =
     All-cons (All IsAcceptable) s.ran.session.pages (accepted_in sessions) (are_acceptable bytes settings spare s.ran.fed s.ran.session h s.ran.session_is)
     (acceptable_in bytes sessions h)
 
+-- what sessions send that were served by the settings of a file
+served_send : (bytes : List ℕ) {settings : Parts} {spare : ℕ} (old : Around) (sessions : List (Served settings spare)) → (IsTrue old.shelf.tells → settings_of bytes ≡ Ok settings) → ServedSend old sessions
+served_send bytes old sessions read = λ t.
+    let all = acceptable_in bytes sessions (read t) in
+    record {
+      acceptable = all;
+      airs = airs_of sessions;
+      clean = near-airs (accepted_in sessions) (airs sessions) (airs_of sessions);
+      heard = λ capcodes now u near. HearNear-from capcodes now u (accepted_in sessions) all near;
+    }
+
+fault_promise : (bytes : List ℕ) (settings : Parts) (spare : ℕ) (first old new : Around) (name : List ℕ) (most : ℕ) (h : AtFreshFault settings spare old new name most ⊎ AtAppendFault settings spare old new name most)
+    → (IsTrue first.shelf.tells → settings_of bytes ≡ Ok settings) → FaultPromise settings spare first old new name most h
+fault_promise bytes settings spare first old new name most (inl fresh) read = tt
+fault_promise bytes settings spare first old new name most (inr fault) read = served_send bytes first fault.sessions read
+
+file_promise : (settings air : List ℕ) (count : ℕ) (old new : Around) (row : (Unreadable settings old.shelf new.shelf × KeepsAround old new) ⊎ ServedBy settings air count old new FileFault)
+    → FilePromise settings air count old new row
+file_promise settings air count old new (inl unread) = tt
+file_promise settings air count old new (inr by) = fault_promise (old.shelf.file settings) by.parts by.parts.cells old (with_shelf old by.shelf) new air count by.served by.read.settings_are
+
 station_promise : (settings air : List ℕ) (count : ℕ) (old new : Around) (outcome : Outcome) (row : StationRow settings air count old new outcome)
     → StationPromise settings air count old new outcome row
 station_promise settings air count old new (Refused fault) row = tt
 station_promise settings air count old new (Misread fault) row = tt
-station_promise settings air count old new (Ended Done) row = λ t. record {
-  acceptable = acceptable_in (old.shelf.file settings) row.served.sessions (row.read.settings_are t);
-  airs = airs_of row.served.sessions;
-}
+station_promise settings air count old new (Ended Done) row = served_send (old.shelf.file settings) old row.served.sessions row.read.settings_are
+station_promise settings air count old new (Ended WireFault) row = served_send (old.shelf.file settings) old row.served.sessions row.read.settings_are
+station_promise settings air count old new (Ended OutFault) row = served_send (old.shelf.file settings) old (row.served.sessions ++ row.served.unreported ∷ []) row.read.settings_are
+station_promise settings air count old new (Ended FileFault) row = file_promise settings air count old new row
 station_promise settings air count old new (Ended status) row = tt
 
 -- ---- a run

@@ -1,5 +1,6 @@
 -- What a run promises of the pages that receivers hear.
-use Rattle.std.specs.Prelude.{◌≡◌, ℕ, Bool, true, false, List, [], ◌∷◌, map, IsTrue, All}
+use Rattle.std.specs.Prelude.{◌≡◌, ℕ, ◌⊎◌, Bool, true, false, List, [], ◌∷◌, ◌++◌, map, IsTrue, All}
+use Rattle.std.proofs.Common.{inl, inr}
 use Rattle.bits.specs.Bits.{bytes_bits}
 use Rattle.page_text.specs.Page.{Page, IsAcceptable}
 use Rattle.air.specs.Near.{IsAirs, Near}
@@ -11,12 +12,13 @@ use Rattle.wires.specs.Stacked.{noisy_bits}
 use Rattle.wires.specs.Written.{Written}
 use Rattle.station.specs.declared.outcomes.Outcome.{Outcome}
 use Rattle.station.specs.declared.outcomes.Outcome.TheVariants.{Ended}
-use Rattle.station.specs.declared.statuses.Status.TheVariants.{Done}
-use Rattle.station.specs.NearAir.{joined, pages_of}
+use Rattle.station.specs.declared.statuses.Status.TheVariants.{Done, FileFault, OutFault, WireFault}
+use Rattle.station.specs.NearAir.{AreUsable, joined, pages_of}
 use Rattle.station.specs.PageLines.{pages_heard}
 use Rattle.station.specs.Served.{Served, airs}
-use Rattle.station.specs.Serving.{Around}
-use Rattle.station.specs.StationRows.{StationRow, TrialRow}
+use Rattle.station.specs.ReadFile.{Unreadable}
+use Rattle.station.specs.Serving.{Around, AtAppendFault, AtFreshFault}
+use Rattle.station.specs.StationRows.{KeepsAround, ServedBy, StationRow, TrialRow, with_shelf}
 
 -- Of each of these capcodes exactly its pages in these lists are heard in the bits, in order, each with its text.
 abbrev pub HearLists : List ℕ → List (List Page) → List Bool → Type 0
@@ -45,13 +47,34 @@ TrialPromise settings noise capcodes input0 input old new out0 out outcome row =
 abbrev pub accepted_in : {settings : Parts} {spare : ℕ} → List (Served settings spare) → List (List Page)
 accepted_in sessions = map (λ s. s.ran.session.pages) sessions
 
--- The pages that sessions accepted are acceptable, and these are their transmissions, one after another.
+-- The pages that sessions accepted are acceptable, and these are their transmissions, one after another. They are near as they were
+-- sent, and of bits that are near them receivers of any capcodes hear exactly these pages.
 pub record SendsAccepted (lists : List (List Page)) (bits : List Bool) : Type 0 where
   pub acceptable : All (All IsAcceptable) lists
   pub airs : IsAirs lists bits
+  pub clean : Near lists bits
+  pub heard : (capcodes : List ℕ) (now : List Bool) → AreUsable (is_one_of capcodes) → Near lists now → HearLists capcodes lists now
 
--- what serving connections promises, where it came to Done
+-- sessions that were served send what they accepted
+abbrev pub ServedSend : {settings : Parts} {spare : ℕ} → Around → List (Served settings spare) → Type 0
+ServedSend old sessions = IsTrue old.shelf.tells → SendsAccepted (accepted_in sessions) (airs sessions)
+
+-- where an append failed, this holds of the sessions before the last one
+abbrev pub FaultPromise : (settings : Parts) (spare : ℕ) (first old new : Around) (name : List ℕ) (most : ℕ)
+    → AtFreshFault settings spare old new name most ⊎ AtAppendFault settings spare old new name most → Type 0
+FaultPromise settings spare first old new name most (inl fresh) = Unit {0}
+FaultPromise settings spare first old new name most (inr fault) = ServedSend first fault.sessions
+
+-- where a file failed: the settings file wasn't read, or the air failed
+abbrev pub FilePromise : (settings air : List ℕ) (count : ℕ) (old new : Around)
+    → (Unreadable settings old.shelf new.shelf × KeepsAround old new) ⊎ ServedBy settings air count old new FileFault → Type 0
+FilePromise settings air count old new (inl unread) = Unit {0}
+FilePromise settings air count old new (inr by) = FaultPromise by.parts by.parts.cells old (with_shelf old by.shelf) new air count by.served
+
+-- what serving connections promises of the sessions whose transmissions were appended
 abbrev pub StationPromise : (settings air : List ℕ) (count : ℕ) (old new : Around) (outcome : Outcome) → StationRow settings air count old new outcome → Type 0
-StationPromise settings air count old new (Ended Done) row =
-    IsTrue old.shelf.tells → SendsAccepted (accepted_in row.served.sessions) (airs row.served.sessions)
+StationPromise settings air count old new (Ended Done) row = ServedSend old row.served.sessions
+StationPromise settings air count old new (Ended WireFault) row = ServedSend old row.served.sessions
+StationPromise settings air count old new (Ended OutFault) row = ServedSend old (row.served.sessions ++ row.served.unreported ∷ [])
+StationPromise settings air count old new (Ended FileFault) row = FilePromise settings air count old new row
 StationPromise settings air count old new outcome row = Unit {0}

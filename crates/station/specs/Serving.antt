@@ -117,6 +117,11 @@ abbrev pub Further : Parts → ℕ → Around → Around → List ℕ → ℕ �
 Further settings spare old now name most pool number None = (sessions : List (Served settings spare)) × SoFar old now name most pool sessions × (length sessions ≡ number)
 Further settings spare old now name most pool number (Some status) = HasServed settings spare old now name most status
 
+-- No page waits in the pool, but where a file failed.
+abbrev pub IsIdle : Pool → Status → Type 0
+IsIdle pool FileFault = Unit {0}
+IsIdle pool other = pool.live ≡ []
+
 -- The transmission of a pool's pages was appended to a file, and the pool is empty.
 pub record SendsTo {T E : Type 0} (before after : Pool) (old new : Files) (name : List ℕ) (result : Result T E) : Type 0 where
   pub bits : List Bool

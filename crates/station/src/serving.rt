@@ -7,11 +7,11 @@
 //! What to mind. What serving comes to is said for the list of the sessions that were served (`specs/Served.antt`), status by status
 //! (`specs/Serving.antt`). The lines are numbered from 1.
 
-ghost use Rattle.std.specs.Prelude.{◌≡◌, ℕ, ◌+◌, ◌≤◌, List, length, OnOk, Option, []};
+ghost use Rattle.std.specs.Prelude.{◌≡◌, ℕ, ◌+◌, ◌≤◌, List, length, MatchOption, OnOk, Option, []};
 ghost use Rattle.air.specs.Sends.{Sends};
 ghost use Rattle.page_pool.specs.Pool.{cells, pages};
 ghost use Rattle.station.specs.Served.{Served};
-ghost use Rattle.station.specs.Serving.{Around, Further, HasServed, SendsTo, SoFar};
+ghost use Rattle.station.specs.Serving.{Around, Further, HasServed, IsIdle, SendsTo, SoFar};
 ghost use Rattle.subscribers.specs.Parts.{Parts};
 ghost use Rattle.wires.specs.Stacked.{bits_over};
 
@@ -33,7 +33,7 @@ impl Station {
     ///
     /// Done comes where `count` connections were served or no further one came. FileFault comes only where the shelf failed, WireFault
     /// only where `listen` or `next` did, and OutFault only where `out` did. A session whose line was lost, or whose `hang_up` failed, is
-    /// reported like any other, and the serving goes on.
+    /// reported like any other, and the serving goes on. No page is left in the pool, but where the shelf failed.
     pub fn serve<W: Wire, F: Shelf, O: Sink>(
         &mut self,
         wire: &mut W,
@@ -48,6 +48,7 @@ impl Station {
         ensures served { HasServed self.old.settings (cells self.old.pool)
             (record { wire = W.state wire.old; shelf = F.state shelf.old; out = O.state out.old })
             (record { wire = W.state wire.new; shelf = F.state shelf.new; out = O.state out.new }) air.now count result }
+        ensures idle { IsIdle self.new.pool result }
     {
         self.pool.clear();
         if let Err(Failed) = shelf.fresh(air) {
@@ -80,6 +81,7 @@ impl Station {
             → SoFar first (record { wire = W.state wire.old; shelf = F.state shelf.old; out = O.state out.old }) air.now most self.old.pool sessions
             → length sessions + 1 ≡ number → number ≤ most
             → Further settings spare first (record { wire = W.state wire.new; shelf = F.state shelf.new; out = O.state out.new }) air.now most self.new.pool number result }
+        ensures idle { self.old.pool.live ≡ [] → MatchOption result (self.new.pool.live ≡ []) (λ status. IsIdle self.new.pool status) }
     {
         match wire.next() {
             Ok(true) => {}
