@@ -1,5 +1,5 @@
 -- A file that is read piece by piece.
-use Rattle.std.proofs.Common.{◌≡◌, ℕ, ◌+◌, ◌≤◌, List, ◌++◌, length, length-append, take, drop, Result, Ok, Err, IsTrue, refl, sym, ◌∙◌, ap, subst, arith}
+use Rattle.std.proofs.Common.{◌≡◌, ℕ, ◌+◌, ◌≤◌, ◌<◌, List, ◌++◌, length, length-append, take, drop, Result, Ok, Err, IsTrue, refl, sym, ◌∙◌, ap, subst, arith}
 use Rattle.std.proofs.Math.Seq.{take-add}
 use Rattle.std.proofs.lemmas.List.{length-take-le, take_all}
 use Rattle.wires.specs.Causes.{Rose}
@@ -29,6 +29,11 @@ unharmed_then {E} name a b c from buffer n k h = record {
   steady = λ t s here. (h.steady (still k.kept.tells t) (k.steady t s here) (there_stays name a b k.kept.files here)).1;
 }
 
+-- what was read was there
+pub there_then : {E : Type 0} (name : List ℕ) (a b c : Files) (from : ℕ) (buffer : List ℕ) (n : ℕ) → Unharmed name a b → ReadsAt {E = E} b c name from buffer (Ok n)
+    → IsTrue a.tells → IsTrue (a.there name)
+there_then {E} name a b c from buffer n k h t = subst IsTrue (ap (λ (o : OtherFiles). o.there name) k.kept.files) (h.there (still k.kept.tells t))
+
 -- a read that failed
 pub unreadable_then : {E : Type 0} (name : List ℕ) (a b c : Files) (from : ℕ) (buffer : List ℕ) (e : E) → Unharmed name a b → ReadsAt b c name from buffer (Err e) → Unreadable name a c
 unreadable_then {E} name a b c from buffer e k h = record {
@@ -56,6 +61,7 @@ pub read_to_end : {E : Type 0} (name : List ℕ) (a b c : Files) (bytes buffer :
     → ReadsAt {E = E} b c name (length bytes) buffer (Ok n) → (IsTrue a.tells → bytes ≡ take (length bytes) (a.file name)) → ReadInto name a c bytes
 read_to_end {E} name a b c bytes buffer n none few k h before = record {
   unharmed = unharmed_then {E = E} name a b c (length bytes) buffer n k h;
+  there = there_then {E = E} name a b c (length bytes) buffer n k h;
   bytes_are = λ t.
       let short : length (a.file name) ≤ length bytes = subst (λ (f : List ℕ). length f ≤ length bytes) (file_stays name a b k.kept.files) ((h.at_end (still k.kept.tells t)).0 none) in
       before t ∙ (take_all (length bytes) (a.file name) short ∙ sym (take_all most_of_file (a.file name) (omega (arith, short, few))));
@@ -63,8 +69,9 @@ read_to_end {E} name a b c bytes buffer n none few k h before = record {
 
 -- as much was read as is read at most
 pub read_to_limit : (name : List ℕ) (a b : Files) (bytes : List ℕ) → most_of_file ≤ length bytes → length bytes ≤ most_of_file → Unharmed name a b
-    → (IsTrue a.tells → bytes ≡ take (length bytes) (a.file name)) → ReadInto name a b bytes
-read_to_limit name a b bytes many few k before = record {
+    → (IsTrue a.tells → 0 < length bytes → IsTrue (a.there name)) → (IsTrue a.tells → bytes ≡ take (length bytes) (a.file name)) → ReadInto name a b bytes
+read_to_limit name a b bytes many few k here before = record {
   unharmed = k;
+  there = λ t. here t (omega (arith, many));
   bytes_are = λ t. let same : length bytes ≡ most_of_file = omega (arith, many, few) in before t ∙ ap (λ (m : ℕ). take m (a.file name)) same;
 }

@@ -42,6 +42,7 @@ is_refused bytes Pages.Memory h = tt
 pub read_pages : (name : List ℕ) (a b : Files) (bytes seen : List ℕ) (told : Told) → seen ≡ bytes → ReadInto name a b bytes → IsFile seen told → ReadPages name a b told
 read_pages name a b bytes seen told same read file = record {
   unharmed = read.unharmed;
+  there = read.there;
   pages_are = λ t. is_file (a.file name) told (subst (λ (xs : List ℕ). IsFile xs told) (same ∙ read.bytes_are t) file);
 }
 
@@ -50,7 +51,7 @@ unsent : (name : List ℕ) (w : Line) (a b : Files) (o : Written ℕ) (bytes see
     → (fault ≡ Pages.Memory → ⊥) → SendRow name (record { wire = w; shelf = a; out = o }) (record { wire = w; shelf = b; out = o }) (Misread fault)
 unsent name w a b o bytes seen Pages.Memory same read refused other = absurd (other refl)
 unsent name w a b o bytes seen fault same read refused other = (
-  record { unharmed = read.unharmed; refused = λ t. is_refused (a.file name) fault (subst (λ (xs : List ℕ). IsRefused xs fault) (same ∙ read.bytes_are t) refused) },
+  record { unharmed = read.unharmed; there = read.there; refused = λ t. is_refused (a.file name) fault (subst (λ (xs : List ℕ). IsRefused xs fault) (same ∙ read.bytes_are t) refused) },
   record { wire = refl; out = refl },
 )
 

@@ -33,6 +33,7 @@ pub read_settings : (name : List ℕ) (a b : Files) (bytes seen : List ℕ) (set
     → ReadSettings name a b settings
 read_settings name a b bytes seen settings same read answer = record {
   unharmed = read.unharmed;
+  there = read.there;
   settings_are = λ t. sym (settings_of-take (a.file name)) ∙ (ap settings_of (sym (same ∙ read.bytes_are t)) ∙ given answer);
 }
   where
@@ -54,5 +55,6 @@ no_settings name a b bytes seen fault NotOpened.Fault r same read e answer h = e
 no_settings name a b bytes seen fault NotOpened.Memory r same read e answer h = read.unharmed
 no_settings name a b bytes seen fault (NotOpened.Refused other) r same read e answer h = record {
   unharmed = read.unharmed;
+  there = read.there;
   refused = λ t. sym (settings_of-take (a.file name)) ∙ (ap settings_of (sym (same ∙ read.bytes_are t)) ∙ (refused fault seen r e h.1 answer ∙ ap (λ (f : SettingsFault). Err f) (sym h.0)));
 }

@@ -34,9 +34,10 @@ pub record Unreadable (name : List ℕ) (old new : Files) : Type 0 where
   pub unsteady : IsTrue old.tells → IsTrue old.steady → IsTrue (old.there name) → ⊥
   pub faults : Rose old.faults new.faults
 
--- The file was read into memory, as far as it is read at most.
+-- The file was there, and was read into memory, as far as it is read at most.
 pub record ReadInto (name : List ℕ) (old new : Files) (bytes : List ℕ) : Type 0 where
   pub unharmed : Unharmed name old new
+  pub there : IsTrue old.tells → IsTrue (old.there name)
   pub bytes_are : IsTrue old.tells → bytes ≡ take most_of_file (old.file name)
 
 -- a read of a file into memory
@@ -45,14 +46,16 @@ ReadsFile name old new (Ok bytes) = ReadInto name old new bytes.items
 ReadsFile name old new (Err NotRead.Fault) = Unreadable name old new
 ReadsFile name old new (Err NotRead.Memory) = Unharmed name old new
 
--- The file was read, and gives these settings.
+-- The file was there and was read, and gives these settings.
 pub record ReadSettings (name : List ℕ) (old new : Files) (settings : Parts) : Type 0 where
   pub unharmed : Unharmed name old new
+  pub there : IsTrue old.tells → IsTrue (old.there name)
   pub settings_are : IsTrue old.tells → settings_of (old.file name) ≡ Ok settings
 
--- The file was read, and is refused for this fault.
+-- The file was there and was read, and is refused for this fault.
 pub record RefusedSettings (name : List ℕ) (old new : Files) (fault : SettingsFault) : Type 0 where
   pub unharmed : Unharmed name old new
+  pub there : IsTrue old.tells → IsTrue (old.there name)
   pub refused : IsTrue old.tells → settings_of (old.file name) ≡ Err fault
 
 -- a read of a settings file

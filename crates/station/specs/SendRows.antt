@@ -13,14 +13,16 @@ use Rattle.station.specs.ReadFile.{Unharmed, Unreadable}
 use Rattle.station.specs.Serving.{Around}
 use Rattle.station.specs.StationRows.{KeepsAround}
 
--- The file was read, and says these pages.
+-- The file was there and was read, and says these pages.
 pub record ReadPages (name : List ℕ) (old new : Files) (told : Told) : Type 0 where
   pub unharmed : Unharmed name old new
+  pub there : IsTrue old.tells → IsTrue (old.there name)
   pub pages_are : IsTrue old.tells → IsFile (old.file name) told
 
--- The file was read, and is refused for this fault.
+-- The file was there and was read, and is refused for this fault.
 pub record RefusedPages (name : List ℕ) (old new : Files) (fault : PagesFault) : Type 0 where
   pub unharmed : Unharmed name old new
+  pub there : IsTrue old.tells → IsTrue (old.there name)
   pub refused : IsTrue old.tells → IsRefused (old.file name) fault
 
 -- The pages were read, and a client sent them. No file changed.

@@ -2,7 +2,7 @@ use Rattle.std.proofs.Common.{ℕ, List, ◌≡◌, ◌∙◌, ◌++◌, length,
 use Rattle.std.proofs.lemmas.List.{length-take-le}
 use Rattle.wires.specs.declared.Failed.{Failed}
 use Rattle.wires.specs.Files.{ReadsAt}
-use Rattle.station.proofs.FilesRead.{bytes_then, read_to_end, read_to_limit, unharmed_then}
+use Rattle.station.proofs.FilesRead.{bytes_then, read_to_end, read_to_limit, there_then, unharmed_then}
 use Rattle.station.proofs.files.read_file.Goals as goal
 
 pub returns-then-n-eq0 : goal.returns-then-n-eq0
@@ -23,6 +23,7 @@ loop-piece-preserved g c =
     let grown : c.extend_from_slice.new.self.items ≡ c.loop-piece.bytes.items ++ take c.in-Ok.n c.read.new.into = c.in-Ok-extend_from_slice.ensures.items in
     record {
       unharmed = unharmed_then {E = Failed} c.args.name.now a (g.F.Shelf.state c.loop-piece.shelf) (g.F.Shelf.state c.read.new.self) (length c.loop-piece.bytes.items) c.read.new.into c.in-Ok.n v.unharmed r;
+      there = λ t some. there_then {E = Failed} c.args.name.now a (g.F.Shelf.state c.loop-piece.shelf) (g.F.Shelf.state c.read.new.self) (length c.loop-piece.bytes.items) c.read.new.into c.in-Ok.n v.unharmed r t;
       bytes_are = λ t. subst (λ (xs : List ℕ). xs ≡ take (length xs) (a.file c.args.name.now)) (sym grown) (more t);
       few = (let two = length-take-le c.in-Ok.n c.read.new.into c.in-Ok.ensures.within in omega (arith, ap length grown, length-append c.loop-piece.bytes.items (take c.in-Ok.n c.read.new.into), two, c.in-Ok.ensures.within, c.min.ensures, c.read.auto.into, c.split_at_mut-into.ensures, c.len-in-loop-piece.ensures, c.loop-piece.bytes.ok.0, v.few));
     }
@@ -30,4 +31,4 @@ loop-piece-preserved g c =
 pub returns : goal.returns
 returns g c =
     let v = c.loop-piece.invariant in
-    read_to_limit c.args.name.now (g.F.Shelf.state c.args.shelf.now) (g.F.Shelf.state c.loop-piece.shelf) c.loop-piece.bytes.items (omega (arith, c.loop-piece-test.false, c.len.ensures)) v.few v.unharmed v.bytes_are
+    read_to_limit c.args.name.now (g.F.Shelf.state c.args.shelf.now) (g.F.Shelf.state c.loop-piece.shelf) c.loop-piece.bytes.items (omega (arith, c.loop-piece-test.false, c.len.ensures)) v.few v.unharmed v.there v.bytes_are
