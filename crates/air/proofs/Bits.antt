@@ -24,6 +24,8 @@ module _ (p n p' n' : ℕ) (s s' : Order) (w w' : Pool) (a b c d : GName) (pool 
   takes_bit bit e = record {
     tells = refl;
     left = λ t. e;
+    there = λ t here. refl;
+    came = λ t. refl;
     steady = λ t u. (refl, refl);
     faults = record { later = omega arith; failed = tt; kept = refl };
     lent = ap₂ (λ (x y : GName). Lent x ∷ Lent y ∷ []) pool steps;
@@ -35,6 +37,8 @@ module _ (p n p' n' : ℕ) (s s' : Order) (w w' : Pool) (a b c d : GName) (pool 
   takes_none e h = record {
     tells = refl;
     left = λ t. (e, h);
+    there = λ t here. refl;
+    came = λ t. refl;
     steady = λ t u. (refl, refl);
     faults = record { later = omega arith; failed = tt; kept = refl };
     lent = ap₂ (λ (x y : GName). Lent x ∷ Lent y ∷ []) pool steps;

@@ -81,6 +81,7 @@ abbrev pub air_bits : ℕ → ℕ → Order → Pool → GName → GName → Lef
 air_bits pending word s w pool steps = record {
   tells = true;
   left = bits_to_come pending word s w;
+  there = true;
   steady = true;
   faults = 0;
   lent = Lent pool ∷ Lent steps ∷ [];

@@ -13,19 +13,20 @@ use Rattle.station.specs.Listening.{Listens}
 
 -- the bits, holding these of others
 abbrev pub holding : List Held → Left Bool → Left Bool
-holding held b = record { tells = b.tells; left = b.left; steady = b.steady; faults = b.faults; lent = held }
+holding held b = record { tells = b.tells; left = b.left; there = b.there; steady = b.steady; faults = b.faults; lent = held }
 
 took_holding : (held : List Held) (a b : Left Bool) (bits : List Bool) → Took a b bits → Took (holding held a) (holding held b) bits
-took_holding held a b bits h = record { tells = h.tells; left = h.left; steady = h.steady; faults = h.faults; lent = refl }
+took_holding held a b bits h = record { tells = h.tells; left = h.left; there = h.there; steady = h.steady; faults = h.faults; lent = refl }
 
 -- what was listened to doesn't depend on what the bits hold
 listens_holding : (printed : List Bool → List ℕ) (held : List Held) (a b : Left Bool) (o0 o : Written ℕ) (status : Status) → Listens printed a b o0 o status
     → Listens printed (holding held a) (holding held b) o0 o status
-listens_holding printed held a b o0 o Done h = record { bits = h.bits; took = took_holding held a b h.bits h.took; whole = h.whole; few = h.few; wrote = h.wrote }
+listens_holding printed held a b o0 o Done h = record { bits = h.bits; took = took_holding held a b h.bits h.took; there = h.there; whole = h.whole; few = h.few; wrote = h.wrote }
 listens_holding printed held a b o0 o TooLong h = record {
   bits = h.bits;
   further = h.further;
   took = took_holding held a b (h.bits ++ h.further ∷ []) h.took;
+  there = h.there;
   many = h.many;
   wrote = h.wrote;
 }

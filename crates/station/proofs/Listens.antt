@@ -80,6 +80,7 @@ heard_all printed b0 b1 b2 o0 o n few h t =
     record {
       bits = h.bits;
       took = subst (λ (bits : List Bool). Took b0 b2 bits) (append-nil h.bits) (Took-then b0 b1 b2 h.bits [] h.took none.0);
+      there = λ k. h.took.there k (t.came (still h.took.tells k));
       whole = λ k. none.1 (still h.took.tells k);
       few = omega (arith, few, h.many);
       wrote = h.wrote;
@@ -92,6 +93,7 @@ heard_too_many printed b0 b1 b2 o0 o n bit many h t = record {
   bits = h.bits;
   further = bit;
   took = Took-then b0 b1 b2 h.bits (bit ∷ []) h.took (Took-one b1 b2 bit t);
+  there = λ k. h.took.there k (t.came (still h.took.tells k));
   many = h.many ∙ many;
   wrote = h.wrote;
 }

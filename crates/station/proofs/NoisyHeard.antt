@@ -1,5 +1,5 @@
 -- Listening through a noise, bit by bit.
-use Rattle.std.proofs.Common.{◌≡◌, ℕ, ◌≤◌, ◌<◌, ◌^◌, Bool, true, false, List, [], ◌∷◌, ◌++◌, length, length-append, Result, Ok, Err, IsTrue, refl, sym, ◌∙◌, ap, subst, arith, append_assoc, append-nil}
+use Rattle.std.proofs.Common.{◌≡◌, ◌≢◌, ℕ, ◌≤◌, ◌<◌, ◌^◌, Bool, true, false, List, [], ◌∷◌, ◌++◌, length, length-append, Result, Ok, Err, IsTrue, refl, sym, ◌∙◌, ap, subst, arith, append_assoc, append-nil}
 use Rattle.std.specs.Prelude.{not}
 use Rattle.std.specs.Bool.{beq}
 use Rattle.bits.specs.Bits.{xor}
@@ -61,7 +61,7 @@ noisy-after true false now next bits noise b n h g = elim g [ ]
 
 pub took_after : (before after : Bool) (old now next : Left Bool) (noise : List Bool) (n : Bool) → Took old now noise → NoiseGives {E = Failed} before after now next (Ok n)
     → Took old next (noise_after before after noise n)
-took_after false false old now next noise n h g = Took-then old now next noise (n ∷ []) h g
+took_after false false old now next noise n h g = Took-then old now next noise (n ∷ []) h g.0
 took_after false true old now next noise n h g = subst (λ (xs : List Bool). Took old next xs) (append-nil noise) (Took-then old now next noise [] h g.1)
 took_after true true old now next noise n h g = subst (λ (x : Left Bool). Took old x noise) (sym g.1) h
 took_after true false old now next noise n h g = elim g [ ]
@@ -69,16 +69,28 @@ took_after true false old now next noise n h g = elim g [ ]
 pub so_far_after : (before after : Bool) (now next : Left Bool) (bits noise : List Bool) (b n : Bool) → NoiseSoFar before now bits noise → NoiseGives {E = Failed} before after now next (Ok n)
     → (next.tells ≡ now.tells) → NoiseSoFar after next (bits ++ b ∷ []) (noise_after before after noise n)
 so_far_after false false now next bits noise b n h g t = omega (arith, length-append noise (n ∷ []), length-append bits (b ∷ []), h)
-so_far_after false true now next bits noise b n h g t = (omega (arith, length-append bits (b ∷ []), h), λ told. g.2 (subst IsTrue t told))
+so_far_after false true now next bits noise b n h g t = (omega (arith, length-append bits (b ∷ []), h), λ told. g.2 (subst IsTrue t told), omega (arith, length-append bits (b ∷ [])))
 so_far_after true true now next bits noise b n h g t =
-    (omega (arith, length-append bits (b ∷ []), h.0), subst (λ (x : Left Bool). IsTrue x.tells → x.left ≡ []) (sym g.1) h.1)
+    (omega (arith, length-append bits (b ∷ []), h.0), subst (λ (x : Left Bool). IsTrue x.tells → x.left ≡ []) (sym g.1) h.1, omega (arith, length-append bits (b ∷ [])))
 so_far_after true false now next bits noise b n h g t = elim g [ ]
 
 pub gives_tells : (before after : Bool) (now next : Left Bool) (n : Bool) → NoiseGives {E = Failed} before after now next (Ok n) → next.tells ≡ now.tells
-gives_tells false false now next n g = g.tells
+gives_tells false false now next n g = g.0.tells
 gives_tells false true now next n g = g.1.tells
 gives_tells true true now next n g = ap (λ (x : Left Bool). x.tells) g.1
 gives_tells true false now next n g = elim g [ ]
+
+-- where a bit is heard, the noise was there
+pub there_after : (before after : Bool) (old now next : Left Bool) (bits noise : List Bool) (n : Bool) → Took old now noise → NoiseSoFar before now bits noise
+    → (IsTrue old.tells → 0 < length bits → IsTrue old.there) → NoiseGives {E = Failed} before after now next (Ok n) → IsTrue old.tells → IsTrue old.there
+there_after false false old now next bits noise n h f here g t = h.there t (g.1 (still h.tells t))
+there_after false true old now next bits noise n h f here g t = h.there t (g.3 (still h.tells t))
+there_after true true old now next bits noise n h f here g t = here t f.2
+there_after true false old now next bits noise n h f here g t = elim g [ ]
+
+some_long : (bits : List Bool) → bits ≢ [] → 0 < length bits
+some_long [] h = absurd (h refl)
+some_long (b ∷ bits) h = omega arith
 
 -- nothing was heard
 abbrev pub through_begins : (printed : List Bool → List ℕ) (bits : List Bool) (n : Left Bool) (o : Written ℕ) → printed [] ≡ [] → ListeningThrough printed bits bits false n n o o
@@ -88,6 +100,7 @@ through_begins printed bits n o e = record {
   noise = [];
   took = Took-nothing n;
   so_far = refl;
+  there = λ t some. absurd (omega (arith, some));
   wrote = subst (λ (piece : List ℕ). Wrote o o piece) (sym e) (Wrote-nothing o);
 }
 
@@ -101,6 +114,7 @@ through_goes_on printed bits left before after old now next o0 o1 o2 bit flip x 
   bits_are = h.bits_are ∙ sym (append_assoc h.heard (bit ∷ []) left);
   noise = noise_after before after h.noise flip;
   took = took_after before after old now next h.noise flip h.took g;
+  there = λ t some. there_after before after old now next h.heard h.noise flip h.took h.so_far h.there g t;
   so_far = so_far_after before after now next h.heard h.noise bit flip h.so_far g (gives_tells before after now next flip g);
   wrote = subst (λ (piece : List ℕ). Wrote o0 o2 piece) (sym (ap printed (noisy-after before after now next h.heard h.noise bit flip h.so_far g) ∙ p.more))
       (Wrote-then o0 o1 o2 (printed (noisy_bits h.heard h.noise)) p.piece x h.wrote p.put);
@@ -159,6 +173,7 @@ through_all printed bits left ended old now o0 o none h =
       took = h.took;
       of_all = λ t. noise_of_all ended now bits h.noise (subst (λ (xs : List Bool). NoiseSoFar ended now xs h.noise) all h.so_far) (still h.took.tells t)
           ∙ ap (noisy_bits bits) (sym (h.took.left t));
+      there = λ t some. h.there t (subst (λ (xs : List Bool). 0 < length xs) (sym all) (some_long bits some));
       wrote = subst (λ (xs : List Bool). Wrote o0 o (printed (noisy_bits xs h.noise))) all h.wrote;
     }
 
@@ -195,5 +210,6 @@ with_left printed bits left other ended old now o0 o e h = record {
   noise = h.noise;
   took = h.took;
   so_far = h.so_far;
+  there = h.there;
   wrote = h.wrote;
 }

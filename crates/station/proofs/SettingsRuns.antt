@@ -80,6 +80,7 @@ file_bits_are : (n : GName) (name same : List ℕ) (ready : List Bool) (from : �
 file_bits_are n name same ready from old now r f s e = record {
   tells = ap (λ (x : Files). x.tells) e;
   left = rw (r, f, s, e) refl;
+  there = rw (r, s, e) refl;
   steady = rw (s, e) refl;
   faults = ap (λ (x : Files). x.faults) e;
 }

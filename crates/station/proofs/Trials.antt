@@ -116,6 +116,7 @@ tries_heard settings spare printed i0 i before after n0 n o0 o1 o2 o3 piece x st
       flips = p.noise;
       took_flips = p.took;
       of_noise = p.of_all;
+      there = p.there;
       wrote = wrote_more o0 o2 o3 (answer_lines h.session.answers ++ codes "---\n") (printed (noisy_bits q.air p.noise)) between p.wrote;
     }
     by_status FileFault p = record {

@@ -13,6 +13,7 @@ abbrev pub file_bits : List ℕ → Files → Left Bool
 file_bits name shelf = record {
   tells = shelf.tells;
   left = bytes_bits (shelf.file name);
+  there = shelf.there name;
   steady = shelf.steady && shelf.there name;
   faults = shelf.faults;
   lent = shelf.lent;

@@ -25,10 +25,11 @@ pub record FailedAfter (old new : Left Bool) (bits : List Bool) : Type 0 where
   pub faults : Rose old.faults new.faults
   pub lent : new.lent ≡ old.lent
 
--- All bits were read, and what they give was printed.
+-- All bits were read, from what was there, and what they give was printed.
 pub record ListenedToAll (printed : List Bool → List ℕ) (old new : Left Bool) (out0 out : Written ℕ) : Type 0 where
   pub bits : List Bool
   pub took : Took old new bits
+  pub there : IsTrue old.tells → IsTrue old.there
   pub whole : IsTrue old.tells → new.left ≡ []
   pub few : length bits ≤ most_bits
   pub wrote : Wrote out0 out (printed bits)
@@ -38,6 +39,7 @@ pub record ListenedTooLong (printed : List Bool → List ℕ) (old new : Left Bo
   pub bits : List Bool
   pub further : Bool
   pub took : Took old new (bits ++ further ∷ [])
+  pub there : IsTrue old.tells → IsTrue old.there
   pub many : length bits ≡ most_bits
   pub wrote : Wrote out0 out (printed bits)
 

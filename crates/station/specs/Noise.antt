@@ -1,5 +1,5 @@
 -- Bits that were listened to through a noise, and what was printed of them.
-use Rattle.std.specs.Prelude.{◌≡◌, ℕ, ◌≤◌, Bool, true, false, List, [], ◌∷◌, ◌++◌, length, Result, Ok, Err, IsTrue}
+use Rattle.std.specs.Prelude.{◌≡◌, ◌≢◌, ℕ, ◌≤◌, ◌<◌, Bool, true, false, List, [], ◌∷◌, ◌++◌, length, Result, Ok, Err, IsTrue}
 use Rattle.wires.specs.Left.{Left, Took}
 use Rattle.wires.specs.Stacked.{noisy_bits}
 use Rattle.wires.specs.Written.{Written}
@@ -8,20 +8,22 @@ use Rattle.station.specs.declared.statuses.Status.TheVariants.{Done, FileFault, 
 use Rattle.station.specs.Listening.{FailedAfter}
 use Rattle.station.specs.Wrote.{Wrote, WroteFront}
 
--- The next bit of a noise was given, by whether the noise had ended before and has ended now. Behind its end all bits are 0.
+-- The next bit of a noise was given, by whether the noise had ended before and has ended now. Behind its end all bits are 0, and up to it
+-- the noise is there.
 abbrev pub NoiseGives : {E : Type 0} → Bool → Bool → Left Bool → Left Bool → Result Bool E → Type 0
-NoiseGives false false old new (Ok bit) = Took old new (bit ∷ [])
-NoiseGives false true old new (Ok bit) = (bit ≡ false) × Took old new [] × (IsTrue old.tells → new.left ≡ [])
+NoiseGives false false old new (Ok bit) = Took old new (bit ∷ []) × (IsTrue old.tells → IsTrue old.there)
+NoiseGives false true old new (Ok bit) = (bit ≡ false) × Took old new [] × (IsTrue old.tells → new.left ≡ []) × (IsTrue old.tells → IsTrue old.there)
 NoiseGives true true old new (Ok bit) = (bit ≡ false) × (new ≡ old)
 NoiseGives true false old new (Ok bit) = ⊥
 NoiseGives false after old new (Err _) = FailedAfter old new []
 NoiseGives true after old new (Err _) = ⊥
 
--- All bits were heard, each xor the noise's bit, and what they give was printed.
+-- All bits were heard, each xor the noise's bit, and what they give was printed. Where there are any, the noise was there.
 pub record HeardThrough (printed : List Bool → List ℕ) (bits : List Bool) (old new : Left Bool) (out0 out : Written ℕ) : Type 0 where
   pub noise : List Bool
   pub took : Took old new noise
   pub of_all : IsTrue old.tells → noisy_bits bits noise ≡ noisy_bits bits old.left
+  pub there : IsTrue old.tells → bits ≢ [] → IsTrue old.there
   pub wrote : Wrote out0 out (printed (noisy_bits bits noise))
 
 -- The noise failed. What the bits before give was printed.
@@ -49,10 +51,10 @@ ListensThrough printed bits old new out0 out FileFault = NoiseFailed printed bit
 ListensThrough printed bits old new out0 out OutFault = HeardUnprinted printed bits old new out0 out
 ListensThrough printed bits old new out0 out other = ⊥
 
--- what the noise has been: of its bits as many as were heard, or all
+-- what the noise has been: of its bits as many as were heard, or all, which shows once a bit is heard
 abbrev pub NoiseSoFar : Bool → Left Bool → List Bool → List Bool → Type 0
 NoiseSoFar false now heard noise = length noise ≡ length heard
-NoiseSoFar true now heard noise = (length noise ≤ length heard) × (IsTrue now.tells → now.left ≡ [])
+NoiseSoFar true now heard noise = (length noise ≤ length heard) × (IsTrue now.tells → now.left ≡ []) × (0 < length heard)
 
 -- Listening through a noise is under way.
 pub record ListeningThrough (printed : List Bool → List ℕ) (bits left : List Bool) (ended : Bool) (old now : Left Bool) (out0 out : Written ℕ) : Type 0 where
@@ -61,4 +63,5 @@ pub record ListeningThrough (printed : List Bool → List ℕ) (bits left : List
   pub noise : List Bool
   pub took : Took old now noise
   pub so_far : NoiseSoFar ended now heard noise
+  pub there : IsTrue old.tells → 0 < length heard → IsTrue old.there
   pub wrote : Wrote out0 out (printed (noisy_bits heard noise))

@@ -45,6 +45,7 @@ StationRow settings air count old new (Ended status) = ServedBy settings air cou
 pub record AreFileBits (name : List ℕ) (shelf : Files) (bits : Left Bool) : Type 0 where
   pub tells : bits.tells ≡ shelf.tells
   pub left : bits.left ≡ bytes_bits (shelf.file name)
+  pub there : bits.there ≡ shelf.there name
   pub steady : bits.steady ≡ (shelf.steady && shelf.there name)
   pub faults : bits.faults ≡ shelf.faults
 

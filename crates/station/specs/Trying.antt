@@ -1,5 +1,5 @@
 -- A trial: the session of an input, and what receivers hear of its pages through a noise.
-use Rattle.std.specs.Prelude.{◌≡◌, ◌⊎◌, ℕ, Bool, List, ◌++◌, codes, IsTrue}
+use Rattle.std.specs.Prelude.{◌≡◌, ◌≢◌, ◌⊎◌, ℕ, Bool, List, [], ◌++◌, codes, IsTrue}
 use Rattle.air.specs.Air.{IsAir}
 use Rattle.page_text.specs.Page.{Page}
 use Rattle.subscribers.specs.Parts.{Parts}
@@ -30,12 +30,14 @@ pub record TriedSession (settings : Parts) (spare : ℕ) (old new : Left ℕ) : 
 abbrev pub trial_lines : (List Bool → List ℕ) → Session → List Bool → List ℕ
 trial_lines printed session bits = answer_lines session.answers ++ codes "---\n" ++ printed bits
 
--- All was printed: what is heard of the transmission, each bit xor the noise's bit, and 0 behind the noise's end.
+-- All was printed: what is heard of the transmission, each bit xor the noise's bit, and 0 behind the noise's end. Where
+-- anything is transmitted, the noise was there.
 pub record TriedAll (settings : Parts) (spare : ℕ) (printed : List Bool → List ℕ) (old new : Left ℕ) (noise0 noise : Left Bool) (out0 out : Written ℕ) : Type 0 where
   pub tried : TriedSession settings spare old new
   pub flips : List Bool
   pub took_flips : Took noise0 noise flips
   pub of_noise : IsTrue noise0.tells → noisy_bits tried.air flips ≡ noisy_bits tried.air noise0.left
+  pub there : IsTrue noise0.tells → tried.air ≢ [] → IsTrue noise0.there
   pub wrote : Wrote out0 out (trial_lines printed tried.session (noisy_bits tried.air flips))
 
 -- The noise failed. What is heard of the bits before was printed.

@@ -9,7 +9,7 @@ use Rattle.wires.specs.Files.{Files, all_files, ReadsAt}
 use Rattle.wires.specs.Held.{Held, Lent, Text, OfShelf, OtherFiles}
 use Rattle.wires.specs.Ahead.{Fills}
 use Rattle.wires.specs.Left.{Left, Takes}
-use Rattle.wires.specs.Stacked.{bits_left, shelf_bits}
+use Rattle.wires.specs.Stacked.{bits_left, shelf_bits, some_or}
 use Rattle.bits.proofs.Bytes.{bits_of-add, bytes_bits-append}
 use Rattle.bits.proofs.Lengths.{length-bytes_bits}
 use Rattle.wires.proofs.Causes.{cause_ok, cause_err}
@@ -62,6 +62,8 @@ pub source_fill : {E : Type 0} (ready : List Bool) (n : ℕ) (a b : Left ℕ) (b
 source_fill ready n a b buffer z h = rw z (record {
   tells = h.tells;
   left = λ t. sym (bytes_bits-append (take n buffer) b.left) ∙ ap bytes_bits (sym (h.left t).0);
+  there = λ t here. h.came t;
+  came = λ t. h.came t;
   end = λ t e. ap bytes_bits ((h.left t).1.0 (omega (arith, no_bits (take n buffer) e, length-take n buffer, h.within)));
   steady = λ t s. (refl, (h.steady t s).1);
   faults = cause_ok n (tt {0}) h.faults;
@@ -97,6 +99,8 @@ shelf_fill name file ready from n a b buffer z h = rw z (record {
       let whole : take n buffer ++ drop (min (from + n) 18446744073709551615) (b.file file) ≡ drop from (a.file file) =
       ap (λ (xs : List ℕ). xs ++ drop (min (from + n) 18446744073709551615) (b.file file)) k.0 ∙ (ap (λ (xs : List ℕ). take n (drop from (a.file file)) ++ xs) rest ∙ take-append-drop n (drop from (a.file file))) in
       sym (bytes_bits-append (take n buffer) (drop (min (from + n) 18446744073709551615) (b.file file))) ∙ ap bytes_bits whole;
+  there = λ t here. h.there t;
+  came = λ t. h.there t;
   end = λ t e.
       let k = h.bytes t in
       let none : n ≡ 0 = omega (arith, no_bits (take n buffer) e, ap length k.0, length-take n (drop from (a.file file)), k.1) in
@@ -115,6 +119,8 @@ shelf_fill-fails name file ready from a b buffer e (Ok x) k h = cc
 shelf_fill-fails {E} name file ready from a b buffer e (Err f) k h = record {
   tells = h.tells;
   left = λ t. ap (λ (s : OtherFiles). ready ++ bytes_bits (drop from (s.file file))) h.files;
+  there = λ t here. still (sym (ap (λ (s : OtherFiles). some_or ready (s.there file)) h.files)) here;
+  came = λ t. tt;
   end = λ t. tt;
   steady = λ t s. let two = and_both a.steady (a.there file) s in no_ok ℕ E e (h.steady t two.0 two.1).0;
   faults = cause_err e f h.faults;

@@ -25,6 +25,8 @@ takes_exactly {E} old new buffer (Ok n) h faults made some cut = record {
   tells = refl;
   within = omega (arith, h.count);
   left = λ _. (sym (ap (λ (xs : List ℕ). xs ++ new.left) h.moved.0 ∙ (ap (λ (xs : List ℕ). take n old.left ++ xs) h.moved.1 ∙ take-append-drop n old.left)), (nothing_left n old.left (length buffer) old.cut h.count some cut, none_moved n old.left (length buffer) old.cut h.count));
+  there = λ _ _. refl;
+  came = λ _. refl;
   steady = λ _ s. (refl, steady_later old.calls new.calls h.calls.failing made s);
   faults = cause_counted old.calls new.calls (Ok n) faults h.calls;
   lent = refl;
@@ -33,6 +35,8 @@ takes_exactly {E} old new buffer (Err e) h faults made some cut = record {
   tells = refl;
   within = tt;
   left = λ _. h.failed;
+  there = λ _ _. refl;
+  came = λ _. tt;
   steady = λ _ s. let no = steady_next old.calls s in let yes : IsTrue (next_fails old.calls) = h.fails.0 refl in cc;
   faults = cause_counted old.calls new.calls (Err e) faults h.calls;
   lent = refl;

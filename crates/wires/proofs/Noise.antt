@@ -42,6 +42,8 @@ noisy_pop {F} name x b c d bit r k h =
     record {
       tells = ap (λ (v : Bool). b.tells && v) h.tells ∙ k.tells;
       left = λ t. sym (k.left t) ∙ noisy_step F bit b.left c.left d.left r (h.left (told t).1);
+      there = λ t here. k.came t;
+      came = λ t. k.came t;
       steady = λ t s.
           let two = and_both b.steady c.steady (k.steady t s).1 in
           let after = h.steady (told t).1 two.1 in

@@ -7,6 +7,9 @@ use Rattle.wires.specs.Left.{Left}
 pub record Peeks {A E : Type 0} (old new : Left A) (result : Result Bool E) : Type 0 where
   pub tells : new.tells ≡ old.tells
   pub left : IsTrue old.tells → new.left ≡ old.left
+  -- it makes nothing be there, and an answer comes only where something is there
+  pub there : IsTrue old.tells → IsTrue new.there → IsTrue old.there
+  pub came : IsTrue old.tells → OnOk result (IsTrue old.there)
   pub end : IsTrue old.tells → IfOk result (λ more. IsFalse more → old.left ≡ [])
   pub steady : IsTrue old.tells → IsTrue old.steady → IsOk result × IsTrue new.steady
   pub faults : HasCause old.faults new.faults result
@@ -16,6 +19,9 @@ pub record Peeks {A E : Type 0} (old new : Left A) (result : Result Bool E) : Ty
 pub record Fills {A T E : Type 0} (old new : Left A) (ready : List A) (result : Result T E) : Type 0 where
   pub tells : new.tells ≡ old.tells
   pub left : IsTrue old.tells → new.left ≡ old.left
+  -- it makes nothing be there, and an answer comes only where something is there
+  pub there : IsTrue old.tells → IsTrue new.there → IsTrue old.there
+  pub came : IsTrue old.tells → OnOk result (IsTrue old.there)
   pub end : IsTrue old.tells → OnOk result (ready ≡ [] → old.left ≡ [])
   pub steady : IsTrue old.tells → IsTrue old.steady → IsOk result × IsTrue new.steady
   pub faults : HasCause old.faults new.faults result

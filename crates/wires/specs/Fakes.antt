@@ -11,7 +11,7 @@ pub record SourceInMemory : Type 0 where
   pub calls : CallsMade
 
 abbrev pub source_tells : SourceInMemory → Left ℕ
-source_tells s = record { tells = true; left = s.left; steady = is_steady s.calls; faults = s.calls.faults; lent = [] }
+source_tells s = record { tells = true; left = s.left; there = true; steady = is_steady s.calls; faults = s.calls.faults; lent = [] }
 
 -- how many bytes a read moves: as many as are left and the buffer has room for, and at most the cut
 abbrev pub moved_by : SourceInMemory → List ℕ → ℕ

@@ -1,13 +1,15 @@
 -- What an object that is read from has left.
-use Rattle.std.specs.Prelude.{◌≡◌, ℕ, ◌≤◌, ◌↔◌, Bool, List, [], ◌∷◌, ◌++◌, length, take, Result, Ok, Err, Option, Some, None, IsOk, IsTrue, IfOk}
+use Rattle.std.specs.Prelude.{◌≡◌, ℕ, ◌≤◌, ◌↔◌, Bool, List, [], ◌∷◌, ◌++◌, length, take, Result, Ok, Err, Option, Some, None, IsOk, IsTrue, IfOk, OnOk}
 use Rattle.wires.specs.Causes.{HasCause}
 use Rattle.wires.specs.Held.{Held}
 
 -- what an object tells that bytes or bits are read from
 pub record Left (A : Type 0) : Type 0 where
-  -- whether it tells its content: what is left and whether it is steady, which mean nothing where it does not
+  -- whether it tells its content: what is left, whether there is anything to read from and whether it is steady, which mean nothing where it does not
   pub tells : Bool
   pub left : List A
+  -- whether there is anything to read from. Where there is not, each read fails
+  pub there : Bool
   -- no read fails
   pub steady : Bool
   pub faults : ℕ
@@ -23,6 +25,9 @@ pub record Takes {A E : Type 0} (old new : Left A) (buffer : List A) (result : R
   pub tells : new.tells ≡ old.tells
   pub within : IfOk result (λ n. n ≤ length buffer)
   pub left : IsTrue old.tells → Consumes old.left new.left buffer result
+  -- no read makes anything be there, and an answer comes only where something is there
+  pub there : IsTrue old.tells → IsTrue new.there → IsTrue old.there
+  pub came : IsTrue old.tells → OnOk result (IsTrue old.there)
   pub steady : IsTrue old.tells → IsTrue old.steady → IsOk result × IsTrue new.steady
   pub faults : HasCause old.faults new.faults result
   pub lent : new.lent ≡ old.lent
@@ -37,6 +42,9 @@ Pops old new (Err _) = new ≡ old
 pub record TakesOne {A E : Type 0} (old new : Left A) (result : Result (Option A) E) : Type 0 where
   pub tells : new.tells ≡ old.tells
   pub left : IsTrue old.tells → Pops old.left new.left result
+  -- no read makes anything be there, and an answer comes only where something is there
+  pub there : IsTrue old.tells → IsTrue new.there → IsTrue old.there
+  pub came : IsTrue old.tells → OnOk result (IsTrue old.there)
   pub steady : IsTrue old.tells → IsTrue old.steady → IsOk result × IsTrue new.steady
   pub faults : HasCause old.faults new.faults result
   pub lent : new.lent ≡ old.lent
@@ -45,6 +53,8 @@ pub record TakesOne {A E : Type 0} (old new : Left A) (result : Result (Option A
 pub record Took {A : Type 0} (old new : Left A) (taken : List A) : Type 0 where
   pub tells : new.tells ≡ old.tells
   pub left : IsTrue old.tells → old.left ≡ taken ++ new.left
+  -- what is there after them was there before
+  pub there : IsTrue old.tells → IsTrue new.there → IsTrue old.there
   pub steady : IsTrue old.tells → IsTrue old.steady → IsTrue new.steady
   pub faults : new.faults ≡ old.faults
   pub lent : new.lent ≡ old.lent

@@ -8,7 +8,7 @@ use Rattle.wires.specs.Written.{Written}
 
 -- a source of bytes or bits
 abbrev pub silent_source : {A : Type 0} → ℕ → Left A
-silent_source faults = record { tells = false; left = []; steady = false; faults = faults; lent = [] }
+silent_source faults = record { tells = false; left = []; there = false; steady = false; faults = faults; lent = [] }
 
 -- a sink of bytes or bits
 abbrev pub silent_sink : {A : Type 0} → ℕ → Written A

@@ -1,5 +1,5 @@
 -- What types tell that work on an object below them.
-use Rattle.std.specs.Prelude.{ℕ, ◌+◌, ◌*◌, ◌&&◌, Bool, List, [], ◌∷◌, ◌++◌, length, drop, flat_map, Option, option_to_list}
+use Rattle.std.specs.Prelude.{ℕ, ◌+◌, ◌*◌, ◌&&◌, Bool, true, List, [], ◌∷◌, ◌++◌, length, drop, flat_map, Option, option_to_list}
 use Rattle.std.specs.Borrow.{GName}
 use Rattle.std.specs.Int.{to_be_bytes, w32}
 use Rattle.bits.specs.Bits.{bytes_bits, xor}
@@ -25,11 +25,17 @@ bits_over name below = record {
 abbrev pub words_bytes : List ℕ → List ℕ
 words_bytes words = flat_map (to_be_bytes w32) words
 
+-- there is something to read from where some were read ahead, or where there is something below
+abbrev pub some_or : {A : Type 0} → List A → Bool → Bool
+some_or [] there = there
+some_or (x ∷ xs) there = true
+
 -- the bits of a source's bytes: those that are ready, and then those of the bytes left below
 abbrev pub bits_left : List Bool → Left ℕ → Left Bool
 bits_left ready below = record {
   tells = below.tells;
   left = ready ++ bytes_bits below.left;
+  there = some_or ready below.there;
   steady = below.steady;
   faults = below.faults;
   lent = below.lent;
@@ -40,6 +46,7 @@ abbrev pub shelf_bits : GName → List ℕ → List Bool → ℕ → Files → L
 shelf_bits name file ready from below = record {
   tells = below.tells;
   left = ready ++ bytes_bits (drop from (below.file file));
+  there = some_or ready (below.there file);
   steady = below.steady && below.there file;
   faults = below.faults;
   lent = Lent name ∷ Text file ∷ OfShelf (all_files below) ∷ below.lent;
@@ -73,11 +80,12 @@ noisy_bits [] noise = []
 noisy_bits (b ∷ bs) [] = b ∷ bs
 noisy_bits (b ∷ bs) (n ∷ ns) = xor b n ∷ noisy_bits bs ns
 
--- bits with a noise that was lent under this name. A bit that was taken and not yet given out comes first
+-- bits with a noise that was lent under this name. A bit that was taken and not yet given out comes first. They are there where the bits are
 abbrev pub noisy_over : GName → Option Bool → Left Bool → Left Bool → Left Bool
 noisy_over name held bits noise = record {
   tells = bits.tells && noise.tells;
   left = noisy_bits (option_to_list held ++ bits.left) noise.left;
+  there = some_or (option_to_list held) bits.there;
   steady = bits.steady && noise.steady;
   faults = bits.faults + noise.faults;
   lent = Lent name ∷ Parts (length noise.lent) ∷ (noise.lent ++ bits.lent);

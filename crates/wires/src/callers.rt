@@ -62,6 +62,7 @@ pub fn copy<S: Source, K: Sink>(source: &mut S, sink: &mut K) -> Copied
 pub fn skip<B: BitSource>(bits: &mut B) -> Result<bool, Failed>
     ensures skipped { IsTrue (B.state bits.old).tells → IfOk result (λ some. IsTrue some → length (B.state bits.old).left ≡ length (B.state bits.new).left + 1) }
     ensures end { IsTrue (B.state bits.old).tells → IfOk result (λ some. IsFalse some → (B.state bits.old).left ≡ []) }
+    ensures there { IsTrue (B.state bits.old).tells → OnOk result (IsTrue (B.state bits.old).there) }
     ensures steady { IsTrue (B.state bits.old).tells → IsTrue (B.state bits.old).steady → (B.state bits.new).faults ≡ (B.state bits.old).faults }
     ensures cause { HasCause (B.state bits.old).faults (B.state bits.new).faults result }
     ensures lent { (B.state bits.new).lent ≡ (B.state bits.old).lent }
@@ -115,6 +116,7 @@ pub fn holds_a_byte<F: Shelf>(shelf: &mut F, name: &str) -> Result<bool, Failed>
 /// Whether a file has a bit.
 pub fn has_a_bit<F: Shelf>(shelf: &mut F, name: &str) -> Result<bool, Failed>
     ensures bit { IsTrue (F.state shelf.old).tells → IfOk result (λ some. IsFalse some → bytes_bits ((F.state shelf.old).file name.now) ≡ []) }
+    ensures there { IsTrue (F.state shelf.old).tells → OnOk result (IsTrue ((F.state shelf.old).there name.now)) }
     ensures files { all_files (F.state shelf.new) ≡ all_files (F.state shelf.old) }
     ensures steady { IsTrue (F.state shelf.old).tells → IsTrue (F.state shelf.old).steady → IsTrue ((F.state shelf.old).there name.now)
         → (F.state shelf.new).faults ≡ (F.state shelf.old).faults }
