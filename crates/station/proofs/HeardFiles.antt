@@ -33,9 +33,10 @@ listens_holding printed held a b o0 o TooLong h = record {
 listens_holding printed held a b o0 o FileFault h = record {
   bits = h.bits;
   failed = record { tells = h.failed.tells; left = h.failed.left; unsteady = h.failed.unsteady; faults = h.failed.faults; lent = refl };
+  there = h.there;
   wrote = h.wrote;
 }
-listens_holding printed held a b o0 o OutFault h = record { bits = h.bits; took = took_holding held a b h.bits h.took; few = h.few; wrote = h.wrote }
+listens_holding printed held a b o0 o OutFault h = record { bits = h.bits; took = took_holding held a b h.bits h.took; there = h.there; few = h.few; wrote = h.wrote }
 listens_holding printed held a b o0 o Usage h = h
 listens_holding printed held a b o0 o Settings h = h
 listens_holding printed held a b o0 o WireFault h = h

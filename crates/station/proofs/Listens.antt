@@ -1,5 +1,5 @@
 -- Listening, bit by bit.
-use Rattle.std.proofs.Common.{◌≡◌, ℕ, ◌+◌, ◌≤◌, Bool, List, [], ◌∷◌, ◌++◌, length-append, Result, Ok, Err, Option, Some, None, refl, sym, ◌∙◌, ap, subst, arith, append-nil}
+use Rattle.std.proofs.Common.{◌≡◌, ◌≢◌, ℕ, ◌+◌, ◌≤◌, ◌<◌, Bool, List, [], ◌∷◌, ◌++◌, length, length-append, Result, Ok, Err, Option, Some, None, refl, sym, ◌∙◌, ap, subst, arith, append-nil}
 use Rattle.wires.specs.Causes.{Rose}
 use Rattle.wires.specs.Left.{Left, TakesOne, Took}
 use Rattle.wires.specs.Written.{Written, Puts}
@@ -49,11 +49,16 @@ WroteFront-then {T} {E} a b c p q e h k = WroteFront-from_puts a c (p ++ q) e (P
 pub Wrote-nothing : {A : Type 0} (a : Written A) → Wrote a a []
 Wrote-nothing a = Wrote-from_puts {E = Unit {0}} a a [] (tt {0}) (Puts-nothing a (tt {0}))
 
+pub some_long : (bits : List Bool) → bits ≢ [] → 0 < length bits
+some_long [] h = absurd (h refl)
+some_long (b ∷ bits) h = omega arith
+
 -- nothing was read
 abbrev pub listening_begins : (printed : List Bool → List ℕ) (b : Left Bool) (o : Written ℕ) → printed [] ≡ [] → ListeningTo printed b b o o 0
 listening_begins printed b o e = record {
   bits = [];
   took = Took-nothing b;
+  there = λ t some. absurd (omega (arith, some));
   many = refl;
   wrote = subst (λ (piece : List ℕ). Wrote o o piece) (sym e) (Wrote-nothing o);
 }
@@ -68,6 +73,7 @@ abbrev pub listening_goes_on : {E T F : Type 0} (printed : List Bool → List �
 listening_goes_on printed b0 b1 b2 o0 o1 o2 n bit answer x e h taken p = record {
   bits = h.bits ++ bit ∷ [];
   took = Took-then b0 b1 b2 h.bits (bit ∷ []) h.took (Took-one b1 b2 bit (took_some b1 b2 bit answer e taken));
+  there = λ t some. h.took.there t (taken.came (still h.took.tells t));
   many = omega (arith, length-append h.bits (bit ∷ []), h.many);
   wrote = subst (λ (piece : List ℕ). Wrote o0 o2 piece) (sym p.more) (Wrote-then o0 o1 o2 (printed h.bits) p.piece x h.wrote p.put);
 }
@@ -110,6 +116,7 @@ heard_no_more {E} printed b0 b1 b2 o0 o n e h t = record {
     faults = subst (λ (count : ℕ). Rose count b2.faults) h.took.faults t.faults.failed;
     lent = t.lent ∙ h.took.lent;
   };
+  there = λ k some. let long = some_long h.bits some in h.there k (omega (arith, long, h.many));
   wrote = h.wrote;
 }
 
@@ -121,6 +128,7 @@ heard_unprinted printed b0 b1 b2 o0 o1 o2 n bit answer e some few h taken p =
     let t = took_some b1 b2 bit answer some taken in record {
       bits = h.bits ++ bit ∷ [];
       took = Took-then b0 b1 b2 h.bits (bit ∷ []) h.took (Took-one b1 b2 bit t);
+      there = λ k. h.took.there k (t.came (still h.took.tells k));
       few = omega (arith, length-append h.bits (bit ∷ []), h.many, few);
       wrote = subst (λ (piece : List ℕ). WroteFront o0 o2 piece) (sym p.more) (WroteFront-then o0 o1 o2 (printed h.bits) p.piece e h.wrote p.put);
     }

@@ -1,5 +1,5 @@
 -- Listening through a noise, bit by bit.
-use Rattle.std.proofs.Common.{◌≡◌, ◌≢◌, ℕ, ◌≤◌, ◌<◌, ◌^◌, Bool, true, false, List, [], ◌∷◌, ◌++◌, length, length-append, Result, Ok, Err, IsTrue, refl, sym, ◌∙◌, ap, subst, arith, append_assoc, append-nil}
+use Rattle.std.proofs.Common.{◌≡◌, ℕ, ◌≤◌, ◌<◌, ◌^◌, Bool, true, false, List, [], ◌∷◌, ◌++◌, length, length-append, Result, Ok, Err, IsTrue, refl, sym, ◌∙◌, ap, subst, arith, append_assoc, append-nil}
 use Rattle.std.specs.Prelude.{not}
 use Rattle.std.specs.Bool.{beq}
 use Rattle.bits.specs.Bits.{xor}
@@ -13,7 +13,7 @@ use Rattle.wires.proofs.Written.{still}
 use Rattle.station.specs.Listening.{FailedAfter, Prints}
 use Rattle.station.specs.Noise.{HeardThrough, HeardUnprinted, ListeningThrough, NoiseFailed, NoiseGives, NoiseSoFar}
 use Rattle.station.specs.Wrote.{Wrote, WroteFront}
-use Rattle.station.proofs.Listens.{Wrote-nothing, Wrote-then, WroteFront-then}
+use Rattle.station.proofs.Listens.{some_long, Wrote-nothing, Wrote-then, WroteFront-then}
 
 -- one bit more, and one bit of the noise
 noisy-more : (bits noise : List Bool) (b n : Bool) → length noise ≡ length bits → noisy_bits (bits ++ b ∷ []) (noise ++ n ∷ []) ≡ noisy_bits bits noise ++ xor b n ∷ []
@@ -88,10 +88,6 @@ there_after false true old now next bits noise n h f here g t = h.there t (g.3 (
 there_after true true old now next bits noise n h f here g t = here t f.2
 there_after true false old now next bits noise n h f here g t = elim g [ ]
 
-some_long : (bits : List Bool) → bits ≢ [] → 0 < length bits
-some_long [] h = absurd (h refl)
-some_long (b ∷ bits) h = omega arith
-
 -- nothing was heard
 abbrev pub through_begins : (printed : List Bool → List ℕ) (bits : List Bool) (n : Left Bool) (o : Written ℕ) → printed [] ≡ [] → ListeningThrough printed bits bits false n n o o
 through_begins printed bits n o e = record {
@@ -131,6 +127,7 @@ through_unprinted printed bits left before after old now next o0 o1 o2 bit flip 
   bits_are = h.bits_are ∙ sym (append_assoc h.heard (bit ∷ []) left);
   noise = noise_after before after h.noise flip;
   took = took_after before after old now next h.noise flip h.took g;
+  there = λ t some. there_after before after old now next h.heard h.noise flip h.took h.so_far h.there g t;
   wrote = subst (λ (piece : List ℕ). WroteFront o0 o2 piece) (sym (ap printed (noisy-after before after now next h.heard h.noise bit flip h.so_far g) ∙ p.more))
       (WroteFront-then o0 o1 o2 (printed (noisy_bits h.heard h.noise)) p.piece e h.wrote p.put);
 }
@@ -156,6 +153,7 @@ through_failed printed bits left before after old now next o0 o e h g =
         faults = subst (λ (k : ℕ). Rose k next.faults) h.took.faults f.faults;
         lent = f.lent ∙ h.took.lent;
       };
+      there = λ t some. h.there t (some_long h.heard some);
       wrote = h.wrote;
     }
 

@@ -95,6 +95,7 @@ tries_between settings spare printed i0 i before after n o0 o1 o2 piece e silent
       air_is = refl;
       flips = [];
       took_flips = Took-nothing n;
+      there = λ t some. absurd (some refl);
       wrote = subst (λ (z : List ℕ). WroteFront o0 o2 z)
           (ap (λ (z : List ℕ). answer_lines h.session.answers ++ z) is ∙ (sym (append-nil (answer_lines h.session.answers ++ codes "---\n"))
           ∙ ap (λ (z : List ℕ). answer_lines h.session.answers ++ codes "---\n" ++ z) (sym (silent))))
@@ -126,6 +127,7 @@ tries_heard settings spare printed i0 i before after n0 n o0 o1 o2 o3 piece x st
       air_is = p.bits_are;
       flips = p.noise;
       failed = p.failed;
+      there = p.there;
       wrote = wrote_more o0 o2 o3 (answer_lines h.session.answers ++ codes "---\n") (printed (noisy_bits p.heard p.noise)) between p.wrote;
     }
     by_status OutFault p = inr (record {
@@ -135,6 +137,7 @@ tries_heard settings spare printed i0 i before after n0 n o0 o1 o2 o3 piece x st
       air_is = p.bits_are;
       flips = p.noise;
       took_flips = p.took;
+      there = p.there;
       wrote = front_more o0 o2 o3 (answer_lines h.session.answers ++ codes "---\n") (printed (noisy_bits p.heard p.noise)) between p.wrote;
     })
     by_status Usage p = elim p [ ]

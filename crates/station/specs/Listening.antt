@@ -1,5 +1,5 @@
 -- Bits that were listened to, and what was printed of them.
-use Rattle.std.specs.Prelude.{◌≡◌, ℕ, ◌*◌, ◌≤◌, Bool, List, [], ◌∷◌, ◌++◌, length, Result, IsTrue}
+use Rattle.std.specs.Prelude.{◌≡◌, ◌≢◌, ℕ, ◌*◌, ◌≤◌, ◌<◌, Bool, List, [], ◌∷◌, ◌++◌, length, Result, IsTrue}
 use Rattle.wires.specs.Causes.{Rose}
 use Rattle.wires.specs.Left.{Left, Took}
 use Rattle.wires.specs.Written.{Written, Puts}
@@ -34,7 +34,7 @@ pub record ListenedToAll (printed : List Bool → List ℕ) (old new : Left Bool
   pub few : length bits ≤ most_bits
   pub wrote : Wrote out0 out (printed bits)
 
--- As many bits were read as are listened to, and a further one follows. What they give was printed.
+-- As many bits were read as are listened to, from what was there, and a further one follows. What they give was printed.
 pub record ListenedTooLong (printed : List Bool → List ℕ) (old new : Left Bool) (out0 out : Written ℕ) : Type 0 where
   pub bits : List Bool
   pub further : Bool
@@ -43,16 +43,18 @@ pub record ListenedTooLong (printed : List Bool → List ℕ) (old new : Left Bo
   pub many : length bits ≡ most_bits
   pub wrote : Wrote out0 out (printed bits)
 
--- A read failed, and what the bits before it give was printed.
+-- A read failed, and what the bits before it give was printed. Where there are any, they were read from what was there.
 pub record ListenedToFault (printed : List Bool → List ℕ) (old new : Left Bool) (out0 out : Written ℕ) : Type 0 where
   pub bits : List Bool
   pub failed : FailedAfter old new bits
+  pub there : IsTrue old.tells → bits ≢ [] → IsTrue old.there
   pub wrote : Wrote out0 out (printed bits)
 
--- A write failed, after a front of what the bits give that were read.
+-- A write failed, after a front of what the bits give that were read, from what was there.
 pub record ListenedUnheard (printed : List Bool → List ℕ) (old new : Left Bool) (out0 out : Written ℕ) : Type 0 where
   pub bits : List Bool
   pub took : Took old new bits
+  pub there : IsTrue old.tells → IsTrue old.there
   pub few : length bits ≤ most_bits
   pub wrote : WroteFront out0 out (printed bits)
 
@@ -68,5 +70,6 @@ Listens printed old new out0 out other = ⊥
 pub record ListeningTo (printed : List Bool → List ℕ) (old now : Left Bool) (out0 out : Written ℕ) (n : ℕ) : Type 0 where
   pub bits : List Bool
   pub took : Took old now bits
+  pub there : IsTrue old.tells → 0 < n → IsTrue old.there
   pub many : length bits ≡ n
   pub wrote : Wrote out0 out (printed bits)

@@ -26,22 +26,24 @@ pub record HeardThrough (printed : List Bool → List ℕ) (bits : List Bool) (o
   pub there : IsTrue old.tells → bits ≢ [] → IsTrue old.there
   pub wrote : Wrote out0 out (printed (noisy_bits bits noise))
 
--- The noise failed. What the bits before give was printed.
+-- The noise failed. What the bits before give was printed. Where there are any, the noise was there.
 pub record NoiseFailed (printed : List Bool → List ℕ) (bits : List Bool) (old new : Left Bool) (out0 out : Written ℕ) : Type 0 where
   pub heard : List Bool
   pub rest : List Bool
   pub bits_are : bits ≡ heard ++ rest
   pub noise : List Bool
   pub failed : FailedAfter old new noise
+  pub there : IsTrue old.tells → heard ≢ [] → IsTrue old.there
   pub wrote : Wrote out0 out (printed (noisy_bits heard noise))
 
--- A write failed, after a front of what the bits give that were heard.
+-- A write failed, after a front of what the bits give that were heard. Where there are any, the noise was there.
 pub record HeardUnprinted (printed : List Bool → List ℕ) (bits : List Bool) (old new : Left Bool) (out0 out : Written ℕ) : Type 0 where
   pub heard : List Bool
   pub rest : List Bool
   pub bits_are : bits ≡ heard ++ rest
   pub noise : List Bool
   pub took : Took old new noise
+  pub there : IsTrue old.tells → heard ≢ [] → IsTrue old.there
   pub wrote : WroteFront out0 out (printed (noisy_bits heard noise))
 
 -- what was heard through a noise and printed, by status

@@ -40,7 +40,7 @@ pub record TriedAll (settings : Parts) (spare : ℕ) (printed : List Bool → Li
   pub there : IsTrue noise0.tells → tried.air ≢ [] → IsTrue noise0.there
   pub wrote : Wrote out0 out (trial_lines printed tried.session (noisy_bits tried.air flips))
 
--- The noise failed. What is heard of the bits before was printed.
+-- The noise failed. What is heard of the bits before was printed. Where there are any, the noise was there.
 pub record TriedNoise (settings : Parts) (spare : ℕ) (printed : List Bool → List ℕ) (old new : Left ℕ) (noise0 noise : Left Bool) (out0 out : Written ℕ) : Type 0 where
   pub tried : TriedSession settings spare old new
   pub heard : List Bool
@@ -48,9 +48,11 @@ pub record TriedNoise (settings : Parts) (spare : ℕ) (printed : List Bool → 
   pub air_is : tried.air ≡ heard ++ rest
   pub flips : List Bool
   pub failed : FailedAfter noise0 noise flips
+  pub there : IsTrue noise0.tells → heard ≢ [] → IsTrue noise0.there
   pub wrote : Wrote out0 out (trial_lines printed tried.session (noisy_bits heard flips))
 
--- A write failed behind the answers: a front of the lines was written of what is heard of a front of the transmission.
+-- A write failed behind the answers: a front of the lines was written of what is heard of a front of the transmission. Where that has any
+-- bit, the noise was there.
 pub record TriedFront (settings : Parts) (spare : ℕ) (printed : List Bool → List ℕ) (old new : Left ℕ) (noise0 noise : Left Bool) (out0 out : Written ℕ) : Type 0 where
   pub tried : TriedSession settings spare old new
   pub heard : List Bool
@@ -58,6 +60,7 @@ pub record TriedFront (settings : Parts) (spare : ℕ) (printed : List Bool → 
   pub air_is : tried.air ≡ heard ++ rest
   pub flips : List Bool
   pub took_flips : Took noise0 noise flips
+  pub there : IsTrue noise0.tells → heard ≢ [] → IsTrue noise0.there
   pub wrote : WroteFront out0 out (trial_lines printed tried.session (noisy_bits heard flips))
 
 -- A write failed among the answers, and the noise is as before.

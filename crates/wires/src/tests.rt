@@ -24,7 +24,7 @@ struct ThreeBits {
 }
 
 impl BitSource for ThreeBits {
-    ghost state = { λ s. record { tells = true; left = drop s.at s.bits; steady = true; faults = 0; lent = [] } };
+    ghost state = { λ s. record { tells = true; left = drop s.at s.bits; there = true; steady = true; faults = 0; lent = [] } };
 
     fn bit(&mut self) -> Result<Option<bool>, Failed> {
         match self.bits.get(self.at) {
