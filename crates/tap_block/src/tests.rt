@@ -95,41 +95,33 @@ fn letters(
 
 #[test]
 fn long_bodies_are_read_as_by_the_plain_program(rt: HostRuntime) -> Result<(), Fail> {
-    let table: [(&[u8], usize, &[u8], bool, u32); 13] = [
-        (b"5551234\r", 1, b"\r\x031<9\r", true, 10),
-        (b"5551234\r", 64, b"\r\x031<8\r", true, 73),
-        (b"5551234\r", 241, b"\r\x03>;9\r", true, 250),
-        (b"5551234\r", 242, b"\r\x03>?:\r", true, 251),
-        (b"5551234\r", 242, b"\x1F?09\r", true, 250),
-        (b"", 158, b"\r\x03830\r", true, 159),
-        (b"", 159, b"\r\x03871\r", true, 160),
-        (b"", 249, b"\x1F?9;\r", false, 249),
-        (b"", 250, b"\x1F?9;\r", true, 250),
-        (b"", 250, b"\x1F?9;1", false, 250),
-        (b"", 251, b"\x1F?=<\r", true, 251),
-        (b"", 252, b"\x1F01=\r", true, 251),
-        (b"", 600, b"\x178\r", false, 251),
+    let table: [(&[u8], usize, &[u8]); 13] = [
+        (b"5551234\r", 1, b"\r\x031<9\r"),
+        (b"5551234\r", 64, b"\r\x031<8\r"),
+        (b"5551234\r", 241, b"\r\x03>;9\r"),
+        (b"5551234\r", 242, b"\r\x03>?:\r"),
+        (b"5551234\r", 242, b"\x1F?09\r"),
+        (b"", 158, b"\r\x03830\r"),
+        (b"", 159, b"\r\x03871\r"),
+        (b"", 249, b"\x1F?9;\r"),
+        (b"", 250, b"\x1F?9;\r"),
+        (b"", 250, b"\x1F?9;1"),
+        (b"", 251, b"\x1F?=<\r"),
+        (b"", 252, b"\x1F01=\r"),
+        (b"", 600, b"\x178\r"),
     ];
-    for (front, count, behind, sum_ok, length) in table {
+    for (front, count, behind) in table {
         let session = letters(rt.alloc(), front, count, behind)?;
         compare(&rt, rt.alloc(), None, session.as_slice())?;
-        let mut scanner = Scanner::blocks();
-        let mut answer = None;
-        for byte in &session[..session.len().max(2) - 2] {
-            answer = scanner.feed(*byte);
-        }
-        match answer {
-            Some(
-                Item::Block {
-                    sum_ok: ok,
-                    length: size,
-                    ..
-                },
-            ) => assert_eq!(rt; (ok, size), (sum_ok, length), "{count} letters"),
-            _ => assert!(rt; false, "no block of {count} letters"),
-        }
     }
     Ok(())
+}
+
+#[test]
+fn a_block_has_a_sum_and_fields(rt: HostRuntime) {
+    assert_eq!(rt; sum(b"\x02123\rABC\r\x03"), *b"17;");
+    let parts = fields(b"123\rABC\r");
+    assert_eq!(rt; parts, Some((b"123".as_slice(), b"ABC".as_slice())));
 }
 
 #[test]

@@ -1,5 +1,5 @@
 use Rattle.station.proofs.WireCounts.{count-runs}
-use Rattle.station.proofs.station_tests.ran.Goals as goal
+use Rattle.vectors.proofs.runs.ran.Goals as goal
 
 pub returns : goal.returns
 returns g c = count-runs _ _ _ _ c.run.ensures

@@ -1,0 +1,131 @@
+//! Runs of `send`: docs/profile.md, "send" and "outcomes".
+
+use crate::runs::{Left, Object, Objects, files, run_over};
+use station::Status;
+use std::alloc::Global;
+use std::test::Fail;
+
+/// Two pages.
+const TWO: &[u8] = b"PG1\n5551234 HELLO\n999 X\n";
+
+/// The pages file; what is heard, and the calls that fail; the status and its code, what is said, the lines of the pages, and the line
+/// about the status.
+struct Row {
+    pages: &'static [u8],
+    heard: &'static [u8],
+    faults: &'static [(Object, u64)],
+    status: Status,
+    code: u8,
+    said: &'static [u8],
+    lines: &'static [u8],
+    line: &'static [u8],
+}
+
+const ROWS: [Row; 8] = [
+    Row {
+        pages: TWO,
+        heard: b"ID=\x06\r\x1B[p\r\x06\r\x1E\r\x1B\x04\r",
+        faults: &[],
+        status: Status::SomeUnsent,
+        code: 13,
+        said: b"\r\x1BPG1\r\x025551234\rHELLO\r\x032?<\r\x02999\rX\r\x03122\r\x04\r",
+        lines: b"1 sent\n2 abandoned\n",
+        line: b"pocsag: some pages unsent\n",
+    },
+    Row {
+        pages: TWO,
+        heard: b"ID=\x15\r\x15\r\x15\r",
+        faults: &[],
+        status: Status::LogonRefused,
+        code: 12,
+        said: b"\r\x1BPG1\r\x1BPG1\r\x1BPG1\r",
+        lines: b"1 no-logon\n2 no-logon\n",
+        line: b"pocsag: logon refused\n",
+    },
+    Row {
+        pages: TWO,
+        heard: b"ID=\x06\r\x1B[p\r\x15\r\x15\r\x15\r",
+        faults: &[],
+        status: Status::SomeUnsent,
+        code: 13,
+        said: b"\r\x1BPG1\r\x025551234\rHELLO\r\x032?<\r\x025551234\rHELLO\r\x032?<\r\x025551234\rHELLO\r\x032?<\r\x04\r",
+        lines: b"1 tries-spent\n2 disconnected\n",
+        line: b"pocsag: some pages unsent\n",
+    },
+    Row {
+        pages: b"PG1\n5551234 HELLO\n",
+        heard: b"ID=\x06\r\x1B[p\r\x06\r\x1B\x04\r",
+        faults: &[],
+        status: Status::Done,
+        code: 0,
+        said: b"\r\x1BPG1\r\x025551234\rHELLO\r\x032?<\r\x04\r",
+        lines: b"1 sent\n",
+        line: b"",
+    },
+    Row {
+        pages: b"PG1\n12a X\n",
+        heard: b"ID=",
+        faults: &[],
+        status: Status::BadPages,
+        code: 15,
+        said: b"",
+        lines: b"",
+        line: b"pocsag: pages file: line 2\n",
+    },
+    Row {
+        pages: b"PG2\n",
+        heard: b"ID=",
+        faults: &[],
+        status: Status::BadPages,
+        code: 15,
+        said: b"",
+        lines: b"",
+        line: b"pocsag: pages file: line 1\n",
+    },
+    Row {
+        pages: TWO,
+        heard: b"ID=",
+        faults: &[(Object::Wire, 1)],
+        status: Status::WireFault,
+        code: 5,
+        said: b"",
+        lines: b"1 no-logon\n2 no-logon\n",
+        line: b"pocsag: line\n",
+    },
+    Row {
+        pages: TWO,
+        heard: b"ID=\x06\r\x1B[p\r\x06\r\x1E\r\x1B\x04\r",
+        faults: &[(Object::Wire, 2)],
+        status: Status::WireFault,
+        code: 5,
+        said: b"",
+        lines: b"1 no-logon\n2 no-logon\n",
+        line: b"pocsag: line\n",
+    },
+];
+
+/// Sends the pages of a row.
+fn sent(alloc: Global, row: &Row) -> Result<Left, Fail> {
+    let files = files(alloc, &[("pages.txt", row.pages)])?;
+    let objects = Objects {
+        heard: row.heard,
+        files: &files,
+        input: b"",
+        cut: 5,
+        faults: row.faults,
+    };
+    run_over(alloc, &["send", "127.0.0.1:7000", "pages.txt"], objects)
+}
+
+#[test]
+fn pages_are_sent_and_told(rt: HostRuntime) -> Result<(), Fail> {
+    for row in &ROWS {
+        let left = sent(rt.alloc(), row)?;
+        assert_eq!(rt; left.status, row.status);
+        assert_eq!(rt; left.status.code(), row.code);
+        assert_eq!(rt; left.said.as_slice(), row.said);
+        assert_eq!(rt; left.out.as_slice(), row.lines);
+        assert_eq!(rt; left.err.as_slice(), row.line);
+    }
+    Ok(())
+}

@@ -1,0 +1,57 @@
+//! Tables of known words, blocks and sessions, as tests over the public calls of the crates. It has no call of its own.
+//!
+//! Expected values are those of M.584-2, of the profile, and of examples that were worked by hand.
+//!
+//! - `words`: remainders, known words, distances, the correction of one word, and how texts are packed into groups.
+//! - `capcodes`: the capcodes that are used and those that are not, as numbers and in settings files.
+//! - `blocks`: blocks of the entry line with their sums.
+//! - `pools`: a pool that is full.
+//! - `runs`: a run of the program over objects in memory, and `airs`, the bytes of transmissions.
+//! - `one_page`: runs of `one`.
+//! - `receivers`: runs of `play` and `show`.
+//! - `sessions`: runs of `station`, what `play` then prints, and `accepted` and `refused`, the tables of these sessions.
+//! - `cuts`: one session in every cut.
+//! - `long_sessions`: sessions of very many blocks or characters.
+//! - `stations`: runs of `station` in which a call fails.
+//! - `trials`: runs of `trial`.
+//! - `clients`: runs of `send`.
+//! - `refusals`: words that are no command, files that are not there, and settings files that are refused.
+//! - `long_files`: the longest file that is played, and a longer one.
+#![tactic(auto)]
+
+#[cfg(test)]
+mod accepted;
+#[cfg(test)]
+mod airs;
+#[cfg(test)]
+mod blocks;
+#[cfg(test)]
+mod capcodes;
+#[cfg(test)]
+mod clients;
+#[cfg(test)]
+mod cuts;
+#[cfg(test)]
+mod long_files;
+#[cfg(test)]
+mod long_sessions;
+#[cfg(test)]
+mod one_page;
+#[cfg(test)]
+mod pools;
+#[cfg(test)]
+mod receivers;
+#[cfg(test)]
+mod refusals;
+#[cfg(test)]
+mod refused;
+#[cfg(test)]
+mod runs;
+#[cfg(test)]
+mod sessions;
+#[cfg(test)]
+mod stations;
+#[cfg(test)]
+mod trials;
+#[cfg(test)]
+mod words;

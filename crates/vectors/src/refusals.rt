@@ -1,0 +1,166 @@
+//! Runs that are refused: docs/profile.md, "command lines", "settings" and "statuses".
+
+use crate::runs::{Left, Object, Objects, files, run_over};
+use station::Status;
+use std::alloc::Global;
+use std::test::Fail;
+
+/// Words that are no command's.
+const NO_COMMANDS: [&[&str]; 26] = [
+    &[],
+    &["one"],
+    &["one", "2007664"],
+    &["one", "2045063"],
+    &["one", "2097152"],
+    &["one", "08x"],
+    &["one", "+8"],
+    &["one", ""],
+    &["one", "00000008"],
+    &["one", "8", "9"],
+    &["play", "air.bin"],
+    &["play", "a", "8", "8"],
+    &["play", "air.bin", "8", "08"],
+    &["play", "air.bin", "8", "2007664"],
+    &["play", "", "8"],
+    &["show", "air.bin", "8"],
+    &["station", "a", "s", "f", "0"],
+    &["station", "127.0.0.1:7000", "s1.toml", "air.bin", "0"],
+    &["station", "127.0.0.1:7000", "s1.toml", "air.bin", "1001"],
+    &["trial", "s1.toml", "noise.bin"],
+    &["trial", "s1.toml", "noise.bin", "8", "8"],
+    &["send", "air.bin"],
+    &["send", "127.0.0.1:7000"],
+    &["send", "", "pages.txt"],
+    &["send", "127.0.0.1:7000", "pages.txt", "8"],
+    &["One", "8"],
+];
+
+/// The first call of each object that could be used.
+const FIRST_CALLS: &[(Object, u64)] = &[
+    (Object::Wire, 1),
+    (Object::Shelf, 1),
+    (Object::Input, 1),
+    (Object::Output, 1),
+];
+
+/// No object is used but the error stream: every first call to one of the others would fail.
+#[test]
+fn words_that_are_no_command_are_usage(rt: HostRuntime) -> Result<(), Fail> {
+    for words in NO_COMMANDS {
+        let objects = Objects {
+            heard: b"\r",
+            files: &[],
+            input: b"\x02123\rABC\r\x0317;\r",
+            cut: 14,
+            faults: FIRST_CALLS,
+        };
+        let left = run_over(rt.alloc(), words, objects)?;
+        assert_eq!(rt; left.status, Status::Usage);
+        assert_eq!(rt; left.status.code(), 2);
+        assert!(rt; left.said.is_empty() && left.out.is_empty());
+        assert_eq!(rt; left.err.as_slice(), b"pocsag: usage\n".as_slice());
+    }
+    Ok(())
+}
+
+/// Runs the program with these words, where there is one file, and where nothing is heard or read.
+fn ran_with(alloc: Global, words: &[&str], name: &str, bytes: &[u8]) -> Result<Left, Fail> {
+    let files = files(alloc, &[(name, bytes)])?;
+    let objects = Objects {
+        heard: b"",
+        files: &files,
+        input: b"",
+        cut: 1,
+        faults: &[(Object::Wire, 1)],
+    };
+    run_over(alloc, words, objects)
+}
+
+/// Words that name a file that is not there.
+const MISSING: [&[&str]; 5] = [
+    &["play", "none.bin", "8"],
+    &["show", "none.bin"],
+    &["station", "127.0.0.1:7000", "none.toml", "none.bin", "1"],
+    &["trial", "none.toml", "noise.bin", "8"],
+    &["send", "127.0.0.1:7000", "none.txt"],
+];
+
+#[test]
+fn a_file_that_is_not_there_is_a_fault(rt: HostRuntime) -> Result<(), Fail> {
+    for words in MISSING {
+        let left = ran_with(rt.alloc(), words, "air.bin", b"\xAA")?;
+        assert_eq!(rt; left.status, Status::FileFault);
+        assert_eq!(rt; left.status.code(), 4);
+        assert!(rt; left.out.is_empty());
+        assert_eq!(rt; left.err.as_slice(), b"pocsag: file\n".as_slice());
+    }
+    Ok(())
+}
+
+/// Settings files, and what the line about them says.
+const SETTINGS: [(&[u8], &[u8]); 12] = [
+    (b"cells =", b"pocsag: settings: not toml\n"),
+    (b"cell = 1", b"pocsag: settings: form\n"),
+    (
+        b"cells = 1\npassword = \"ab\"",
+        b"pocsag: settings: password\n",
+    ),
+    (b"cells = 0", b"pocsag: settings: cells\n"),
+    (b"cells = 70000", b"pocsag: settings: cells\n"),
+    (
+        b"cells = 1\nsubscriber = [{id = \"x\", capcode = 8, class = \"alpha\"}]",
+        b"pocsag: settings: id at entry 1\n",
+    ),
+    (
+        b"cells = 1\nsubscriber = [{id = \"1\", capcode = 8, class = \"alpha\"}, {id = \"1\", capcode = 9, class = \"alpha\"}]",
+        b"pocsag: settings: id twice at entry 2\n",
+    ),
+    (
+        b"cells = 1\nsubscriber = [{id = \"1\", capcode = 8, class = \"alpha\"}, {id = \"2\", capcode = 2007664, class = \"alpha\"}]",
+        b"pocsag: settings: capcode at entry 2\n",
+    ),
+    (
+        b"cells = 1\nsubscriber = [{id = \"1\", capcode = -1, class = \"alpha\"}]",
+        b"pocsag: settings: capcode at entry 1\n",
+    ),
+    (
+        b"cells = 1\nsubscriber = [{id = \"1\", capcode = 8, class = \"beta\"}]",
+        b"pocsag: settings: class at entry 1\n",
+    ),
+    (b"password = \"SECRET\"", b"pocsag: settings: form\n"),
+    (b"cells = 1\nextra = 1", b"pocsag: settings: form\n"),
+];
+
+/// The commands that read a settings file.
+const READING: [&[&str]; 2] = [
+    &["station", "127.0.0.1:7000", "s1.toml", "air.bin", "1"],
+    &["trial", "s1.toml", "noise.bin", "8"],
+];
+
+#[test]
+fn a_settings_file_that_is_refused_is_named(rt: HostRuntime) -> Result<(), Fail> {
+    for words in READING {
+        for (settings, line) in SETTINGS {
+            let left = ran_with(rt.alloc(), words, "s1.toml", settings)?;
+            assert_eq!(rt; left.status, Status::Settings);
+            assert_eq!(rt; left.status.code(), 3);
+            assert!(rt; left.out.is_empty() && left.air.is_none());
+            assert_eq!(rt; left.err.as_slice(), line);
+        }
+    }
+    Ok(())
+}
+
+#[test]
+fn a_settings_file_of_too_many_bytes_is_named(rt: HostRuntime) -> Result<(), Fail> {
+    let spaces = vec![in rt.alloc(); b' '; 1_048_577]?;
+    for words in READING {
+        let left = ran_with(rt.alloc(), words, "s1.toml", &spaces)?;
+        assert_eq!(rt; left.status, Status::Settings);
+        assert_eq!(rt;
+            left.err.as_slice(),
+            b"pocsag: settings: too long\n".as_slice()
+        );
+    }
+    Ok(())
+}

@@ -1,0 +1,196 @@
+//! A run of the program over objects in memory, and what it left.
+
+ghost use Rattle.std.specs.Prelude.{◌≡◌, ◌<◌, IfOk};
+ghost use Rattle.wires.specs.FakeWire.{wire_tells};
+
+use station::{Status, run};
+use std::alloc::{AllocError, Global};
+use std::test::Fail;
+use wires::fake_shelf::MemoryShelf;
+use wires::fake_wire::MemoryWire;
+use wires::fakes::{MemorySink, MemorySource};
+use wires::shelf::Shelf;
+use wires::sink::Sink;
+use wires::source::Source;
+use wires::wire::Wire;
+
+/// How many bytes can be said, written, or appended to a file.
+const ROOM: usize = 2400;
+
+/// An object that a run is handed.
+#[derive(Clone, Copy, PartialEq, Eq)]
+pub(crate) enum Object {
+    Wire,
+    Shelf,
+    Input,
+    Output,
+    Errors,
+}
+
+/// The objects of a run. `faults` has the calls that fail, each by its object and its number among the calls of this object, from 1.
+#[derive(Clone, Copy)]
+pub(crate) struct Objects<'a> {
+    /// What is heard on the one connection.
+    pub(crate) heard: &'a [u8],
+    pub(crate) files: &'a [(String, Vec<u8>)],
+    pub(crate) input: &'a [u8],
+    /// How many bytes the wire and the input give at a time, at most. It is at least 1.
+    pub(crate) cut: usize,
+    pub(crate) faults: &'a [(Object, u64)],
+}
+
+/// What a run left.
+#[derive(Drop)]
+pub(crate) struct Left {
+    pub(crate) status: Status,
+    /// What was said on the connection.
+    pub(crate) said: Vec<u8>,
+    /// For each time that something was heard, how many bytes had been heard and how many said before it.
+    pub(crate) turns: Vec<(u64, u64)>,
+    pub(crate) out: Vec<u8>,
+    pub(crate) err: Vec<u8>,
+    /// The file `air.bin`.
+    pub(crate) air: Option<Vec<u8>>,
+}
+
+/// These words, each as a text of its own.
+pub(crate) fn texts(alloc: Global, words: &[&str]) -> Result<Vec<String>, AllocError> {
+    let mut owned = Vec::new(alloc);
+    for word in words {
+        owned.push(String::from_str(alloc, *word)?)?;
+    }
+    Ok(owned)
+}
+
+/// These files.
+pub(crate) fn files(
+    alloc: Global,
+    files: &[(&str, &[u8])],
+) -> Result<Vec<(String, Vec<u8>)>, AllocError> {
+    let mut owned = Vec::new(alloc);
+    for (name, bytes) in files {
+        owned.push((
+            String::from_str(alloc, *name)?,
+            Vec::from_slice(alloc, *bytes)?,
+        ))?;
+    }
+    Ok(owned)
+}
+
+/// The pieces, each with so many letters A behind it.
+pub(crate) fn spelled(alloc: Global, pieces: &[(&[u8], usize)]) -> Result<Vec<u8>, AllocError> {
+    let mut bytes = Vec::new(alloc);
+    for (piece, letters) in pieces {
+        bytes.extend_from_slice(*piece)?;
+        push_letters(*letters, &mut bytes)?;
+    }
+    Ok(bytes)
+}
+
+/// Appends so many letters A.
+fn push_letters(letters: usize, bytes: &mut Vec<u8>) -> Result<(), AllocError> {
+    for _ in 0..letters {
+        bytes.push(b'A')?;
+    }
+    Ok(())
+}
+
+/// The numbers of the calls of an object that fail.
+fn calls_of(
+    alloc: Global,
+    object: Object,
+    faults: &[(Object, u64)],
+) -> Result<Vec<u64>, AllocError> {
+    let mut calls = Vec::new(alloc);
+    for (failing, call) in faults {
+        if *failing == object {
+            calls.push(*call)?;
+        }
+    }
+    Ok(calls)
+}
+
+/// A run over these objects. The wire has as many connections as before.
+fn ran<W: Wire, F: Shelf, I: Source, O: Sink, E: Sink>(
+    alloc: Global,
+    words: &[String],
+    wire: &mut W,
+    shelf: &mut F,
+    input: &mut I,
+    out: &mut O,
+    err: &mut E,
+) -> Status
+    ensures { (W.state wire.new).count ≡ (W.state wire.old).count }
+{
+    run(alloc, words, wire, shelf, input, out, err)
+}
+
+/// The wire of a run, which has one connection.
+fn wire_of(alloc: Global, objects: Objects<'_>) -> Result<MemoryWire, Fail>
+    ensures { IfOk result (λ wire. 0 < (wire_tells wire).count) }
+{
+    let heard = [Vec::from_slice(alloc, objects.heard)?];
+    let calls = calls_of(alloc, Object::Wire, objects.faults)?;
+    Ok(MemoryWire::new(alloc, &heard, objects.cut.max(1), ROOM, &calls)?)
+}
+
+/// The shelf of a run.
+fn shelf_of(alloc: Global, objects: Objects<'_>) -> Result<MemoryShelf, Fail> {
+    let calls = calls_of(alloc, Object::Shelf, objects.faults)?;
+    Ok(MemoryShelf::new(alloc, objects.files, ROOM, &calls)?)
+}
+
+/// The input of a run.
+fn input_of(alloc: Global, objects: Objects<'_>) -> Result<MemorySource, Fail> {
+    let calls = calls_of(alloc, Object::Input, objects.faults)?;
+    Ok(MemorySource::new(alloc, objects.input, objects.cut.max(1), &calls)?)
+}
+
+/// The output or the error stream of a run.
+fn sink_of(alloc: Global, object: Object, objects: Objects<'_>) -> Result<MemorySink, Fail> {
+    let calls = calls_of(alloc, object, objects.faults)?;
+    Ok(MemorySink::new(alloc, ROOM, &calls)?)
+}
+
+/// The bytes of the file `air.bin`.
+fn air_in(alloc: Global, shelf: &MemoryShelf) -> Result<Option<Vec<u8>>, AllocError> {
+    match shelf.bytes("air.bin") {
+        Some(bytes) => Ok(Some(Vec::from_slice(alloc, bytes)?)),
+        None => Ok(None),
+    }
+}
+
+/// What the objects hold after a run.
+fn left_by(
+    alloc: Global,
+    status: Status,
+    wire: &MemoryWire,
+    shelf: &MemoryShelf,
+    out: &MemorySink,
+    err: &MemorySink,
+) -> Result<Left, Fail>
+    requires { 0 < (wire_tells wire.now).count }
+{
+    Ok(Left {
+        status,
+        said: Vec::from_slice(alloc, wire.said(0))?,
+        turns: Vec::from_slice(alloc, wire.turns(0))?,
+        out: Vec::from_slice(alloc, out.bytes())?,
+        err: Vec::from_slice(alloc, err.bytes())?,
+        air: air_in(alloc, shelf)?,
+    })
+}
+
+/// Runs the program with these words over these objects.
+pub(crate) fn run_over(alloc: Global, words: &[&str], objects: Objects<'_>) -> Result<Left, Fail> {
+    let words = texts(alloc, words)?;
+    let mut wire = wire_of(alloc, objects)?;
+    let mut shelf = shelf_of(alloc, objects)?;
+    let mut input = input_of(alloc, objects)?;
+    let mut out = sink_of(alloc, Object::Output, objects)?;
+    let mut err = sink_of(alloc, Object::Errors, objects)?;
+    let status = ran(
+        alloc, &words, &mut wire, &mut shelf, &mut input, &mut out, &mut err,
+    );
+    left_by(alloc, status, &wire, &shelf, &out, &err)
+}
