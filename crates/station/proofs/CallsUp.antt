@@ -27,27 +27,29 @@ use Rattle.station.specs.Talk.{Grew, here}
 use Rattle.station.proofs.PutOutcomes.{lines_few}
 
 -- a dial that didn't fail
-pub dialled_so : {T E : Type 0} (a b : Line) (x : T) → Dials {E = E} a b (Ok x) → IsDialled a b
-dialled_so a b x h = record {
+pub dialled_so : {T E : Type 0} (address : List ℕ) (a b : Line) (x : T) → Dials {E = E} a b address (Ok x) → IsDialled address a b
+dialled_so address a b x h = record {
   tells = h.keeps.tells;
   count = h.keeps.count;
   lent = h.keeps.lent;
   connections = h.connections;
+  asked = h.asked;
   opened = h.opened;
-  blank = λ t. subst (λ (n : ℕ). IsBlank (b.connection n)) (let e = (h.opened t).1 in let q : a.opened ≡ b.opened - 1 = omega (arith, e) in q) (Dials-blank a b x t h);
+  blank = λ t. subst (λ (n : ℕ). IsBlank (b.connection n)) (let e = (h.opened t).1 in let q : a.opened ≡ b.opened - 1 = omega (arith, e) in q) (Dials-blank a b address x t h);
   gate = h.cause.kept;
   others = h.others;
   steady = λ t s lt. (h.steady t s lt).1;
 }
 
 -- one that failed
-pub undialled_so : {T E : Type 0} (told : Told) (a b : Line) (e : E) (outcomes : List Outcome) → Dials {T = T} a b (Err e) → outcomes ≡ all_are NoLogon told.pages → CallsUp told a b outcomes (Lost Pending)
-undialled_so {T} {E} told a b e outcomes h o = inr (record {
+pub undialled_so : {T E : Type 0} (told : Told) (address : List ℕ) (a b : Line) (e : E) (outcomes : List Outcome) → Dials {T = T} a b address (Err e) → outcomes ≡ all_are NoLogon told.pages → CallsUp told address a b outcomes (Lost Pending)
+undialled_so {T} {E} told address a b e outcomes h o = inr (record {
   failed = record {
     tells = h.keeps.tells;
     count = h.keeps.count;
     lent = h.keeps.lent;
     connections = h.connections;
+    asked = h.asked;
     opened = h.failed;
     gate = h.cause.failed;
     others = h.others;
@@ -97,6 +99,7 @@ hung_up told old mid now outcomes ending r u o h = record {
     count = h.keeps.count ∙ u.line.count;
     lent = h.keeps.lent ∙ u.line.lent;
     opened = h.opened ∙ u.line.opened;
+    asked = h.asked ∙ u.line.asked;
     grew = λ k p. subst (λ (c : Connection). Grew (here old) c u.heard u.said u.turns) (sym (h.connections (last old))) (u.line.grew k p);
     others = λ k ne. h.connections k ∙ u.line.others k ne;
     gate = h.gate ∙ u.line.gate;
@@ -107,18 +110,19 @@ hung_up told old mid now outcomes ending r u o h = record {
 }
 
 -- the connection that was dialled is the next one
-next_here : (a b : Line) → IsDialled a b → IsTrue a.tells → here b ≡ a.connection a.opened
-next_here a b d t = ap b.connection (let e = (d.opened t).1 in let q : b.opened - 1 ≡ a.opened = omega (arith, e) in q) ∙ d.connections a.opened
+next_here : (address : List ℕ) (a b : Line) → IsDialled address a b → IsTrue a.tells → here b ≡ a.connection a.opened
+next_here address a b d t = ap b.connection (let e = (d.opened t).1 in let q : b.opened - 1 ≡ a.opened = omega (arith, e) in q) ∙ d.connections a.opened
 
-room_there : (told : Told) (a b : Line) → IsDialled a b → IsTrue a.tells → HasRoom told (a.connection a.opened) → HasRoom told (here b)
-room_there told a b d t r = subst (HasRoom told) (sym (next_here a b d t)) r
+room_there : (told : Told) (address : List ℕ) (a b : Line) → IsDialled address a b → IsTrue a.tells → HasRoom told (a.connection a.opened) → HasRoom told (here b)
+room_there told address a b d t r = subst (HasRoom told) (sym (next_here address a b d t)) r
 
 -- dialled, called and hung up
-pub called_so : {T E : Type 0} (told : Told) (a b c d : Line) (outcomes : List Outcome) (spoke : Ending) (x : T) → IsDialled a b → Held told b c outcomes spoke → HangsUp {E = E} c d (Ok x) → CallsUp told a d outcomes spoke
-called_so told a b c d outcomes spoke x o h u = inl (record {
+pub called_so : {T E : Type 0} (told : Told) (address : List ℕ) (a b c d : Line) (outcomes : List Outcome) (spoke : Ending) (x : T) → IsDialled address a b → Held told b c outcomes spoke → HangsUp {E = E} c d (Ok x) → CallsUp told address a d outcomes spoke
+called_so told address a b c d outcomes spoke x o h u = inl (record {
   dialled = b;
   spoke = spoke;
   opens = o;
+  asked = λ t. u.asked ∙ (h.came.line.asked ∙ o.asked t);
   came = hung_up told b c d outcomes spoke (Ok x) h.came h.open_stays u;
   logon = h.came.logon;
   shut = λ t. u.shut (still h.came.line.tells (still o.tells t));
@@ -126,27 +130,28 @@ called_so told a b c d outcomes spoke x o h u = inl (record {
   well = λ t s lt r. u.cause.kept ∙ (h.hang ∙ o.others.hang);
 })
 
-pub called_unhung : {T E : Type 0} (told : Told) (a b c d : Line) (outcomes : List Outcome) (spoke : Ending) (logon : Logon) (e : E) → IsDialled a b → Held told b c outcomes spoke → HangsUp {T = T} c d (Err e) → logon ≡ logon_of spoke
-    → CallsUp told a d outcomes (Lost logon)
-called_unhung {T} {E} told a b c d outcomes spoke logon e o h u l = subst (λ z. CallsUp told a d outcomes (Lost z)) (sym l) (inl (record {
+pub called_unhung : {T E : Type 0} (told : Told) (address : List ℕ) (a b c d : Line) (outcomes : List Outcome) (spoke : Ending) (logon : Logon) (e : E) → IsDialled address a b → Held told b c outcomes spoke → HangsUp {T = T} c d (Err e) → logon ≡ logon_of spoke
+    → CallsUp told address a d outcomes (Lost logon)
+called_unhung {T} {E} told address a b c d outcomes spoke logon e o h u l = subst (λ z. CallsUp told address a d outcomes (Lost z)) (sym l) (inl (record {
   dialled = b;
   spoke = spoke;
   opens = o;
+  asked = λ t. u.asked ∙ (h.came.line.asked ∙ o.asked t);
   came = hung_up told b c d outcomes spoke (Err e) h.came h.open_stays u;
   logon = h.came.logon;
   shut = λ t. u.shut (still h.came.line.tells (still o.tells t));
   hung = inr (refl, subst (λ (n : ℕ). Rose n d.hang) (h.hang ∙ o.others.hang) u.cause.failed);
   well = λ t s lt r.
-      let q = h.came.well (still o.tells t) (o.opened t).2 (o.steady t s lt) (room_there told a b o t r) in
+      let q = h.came.well (still o.tells t) (o.opened t).2 (o.steady t s lt) (room_there told address a b o t r) in
       no_ok T E e (u.steady (still h.came.line.tells (still o.tells t)) q.steady (still h.open_stays (o.opened t).2)).0;
 }))
 
 -- no count rose where the wire is steady and fit
-none_rose : (told : Told) (a d : Line) (outcomes : List Outcome) (ending : Ending) → CallsUp told a d outcomes ending → IsTrue a.tells → IsTrue a.steady → a.opened < a.count → HasRoom told (a.connection a.opened) → NoneRose a d
-none_rose told a d outcomes ending (inl h) t s lt r =
-    let q = h.came.well (still h.opens.tells t) (h.opens.opened t).2 (h.opens.steady t s lt) (room_there told a h.dialled h.opens t r) in
+none_rose : (told : Told) (address : List ℕ) (a d : Line) (outcomes : List Outcome) (ending : Ending) → CallsUp told address a d outcomes ending → IsTrue a.tells → IsTrue a.steady → a.opened < a.count → HasRoom told (a.connection a.opened) → NoneRose a d
+none_rose told address a d outcomes ending (inl h) t s lt r =
+    let q = h.came.well (still h.opens.tells t) (h.opens.opened t).2 (h.opens.steady t s lt) (room_there told address a h.dialled h.opens t r) in
     record { gate = h.came.line.gate ∙ h.opens.gate; hear = q.hear ∙ h.opens.others.hear; say = q.say ∙ h.opens.others.say; hang = h.well t s lt r }
-none_rose told a d outcomes ending (inr h) t s lt r = absurd (h.failed.unsteady t s lt)
+none_rose told address a d outcomes ending (inr h) t s lt r = absurd (h.failed.unsteady t s lt)
 
 -- no count rose where the call is over
 over_counts : (told : Told) (old new : Line) (heard fed : List ℕ) (marks : List Mark) (due said : List ℕ) (logon : Logon) (stop : Stop) → Stops told old new heard fed marks due said (Over logon) stop → (new.hear ≡ old.hear) × (new.say ≡ old.say)
@@ -164,19 +169,19 @@ lost_counts told old new heard fed marks due said logon is_through k = let e = k
 lost_counts told old new heard fed marks due said logon is_long k = let e = k.ending_is in cc
 lost_counts told old new heard fed marks due said logon is_mute k = inr k.say
 
-went_well : (told : Told) (a d : Line) (outcomes : List Outcome) (logon : Logon) → CallsUp told a d outcomes (Over logon) → WentWell told a d outcomes (Over logon)
-went_well told a d outcomes logon (inr h) = let e = h.ending_is in cc
-went_well told a d outcomes logon (inl h) = by_hung h.hung
+went_well : (told : Told) (address : List ℕ) (a d : Line) (outcomes : List Outcome) (logon : Logon) → CallsUp told address a d outcomes (Over logon) → WentWell told address a d outcomes (Over logon)
+went_well told address a d outcomes logon (inr h) = let e = h.ending_is in cc
+went_well told address a d outcomes logon (inl h) = by_hung h.hung
   where
-    by_hung : HungUp a d h.spoke (Over logon) → WentWell told a d outcomes (Over logon)
+    by_hung : HungUp a d h.spoke (Over logon) → WentWell told address a d outcomes (Over logon)
     by_hung (inr k) = let e = k.0 in cc
     by_hung (inl k) =
         let n = over_counts told h.dialled d h.came.heard h.came.fed h.came.marks h.came.due h.came.said logon h.came.stop (subst (λ z. Stops told h.dialled d h.came.heard h.came.fed h.came.marks h.came.due h.came.said z h.came.stop) (sym k.0) h.came.stops) in
         record { called = h; none_rose = record { gate = h.came.line.gate ∙ h.opens.gate; hear = n.0 ∙ h.opens.others.hear; say = n.1 ∙ h.opens.others.say; hang = k.1 } }
 
-some_rose : (told : Told) (a d : Line) (outcomes : List Outcome) (logon : Logon) → CallsUp told a d outcomes (Lost logon) → SomeRose a d
-some_rose told a d outcomes logon (inr h) = inl h.failed.gate
-some_rose told a d outcomes logon (inl h) = by_hung h.hung
+some_rose : (told : Told) (address : List ℕ) (a d : Line) (outcomes : List Outcome) (logon : Logon) → CallsUp told address a d outcomes (Lost logon) → SomeRose a d
+some_rose told address a d outcomes logon (inr h) = inl h.failed.gate
+some_rose told address a d outcomes logon (inl h) = by_hung h.hung
   where
     by_count : Rose h.dialled.hear d.hear ⊎ Rose h.dialled.say d.say → SomeRose a d
     by_count (inl n) = inr (inl (subst (λ (m : ℕ). Rose m d.hear) h.opens.others.hear n))
@@ -215,40 +220,40 @@ client_many password pages marks outcomes said (turned_away k) = ap length k.out
 client_many password pages marks outcomes said (still_calling k) = ap length k.outcomes_are ∙ length-map pages (λ _. NoLogon)
 client_many password pages marks outcomes said (answered k) = logs_on_many k.mark pages k.rest outcomes k.more k.logs_on
 
-calls_many : (told : Told) (a d : Line) (outcomes : List Outcome) (ending : Ending) → CallsUp told a d outcomes ending → length outcomes ≡ length told.pages
-calls_many told a d outcomes ending (inl h) = client_many told.password told.pages h.came.marks outcomes h.came.due h.came.client
-calls_many told a d outcomes ending (inr h) = ap length h.outcomes_are ∙ length-map told.pages (λ _. NoLogon)
+calls_many : (told : Told) (address : List ℕ) (a d : Line) (outcomes : List Outcome) (ending : Ending) → CallsUp told address a d outcomes ending → length outcomes ≡ length told.pages
+calls_many told address a d outcomes ending (inl h) = client_many told.password told.pages h.came.marks outcomes h.came.due h.came.client
+calls_many told address a d outcomes ending (inr h) = ap length h.outcomes_are ∙ length-map told.pages (λ _. NoLogon)
 
 -- the lines fit in 20 bytes a page
-lines_fit : (told : Told) (a d : Line) (outcomes : List Outcome) (ending : Ending) (room : ℕ) → CallsUp told a d outcomes ending → length told.pages ≤ 1000 → 20 * length told.pages ≤ room → length (outcome_lines outcomes) ≤ room
-lines_fit told a d outcomes ending room h few fits =
-    let n = calls_many told a d outcomes ending h in
+lines_fit : (told : Told) (address : List ℕ) (a d : Line) (outcomes : List Outcome) (ending : Ending) (room : ℕ) → CallsUp told address a d outcomes ending → length told.pages ≤ 1000 → 20 * length told.pages ≤ room → length (outcome_lines outcomes) ≤ room
+lines_fit told address a d outcomes ending room h few fits =
+    let n = calls_many told address a d outcomes ending h in
     let l = lines_few outcomes 1 (omega (arith, n, few)) in
     omega (arith, l, n, fits)
 
 -- the status
-sends_by : (told : Told) (a d : Line) (out0 out1 : Written ℕ) (outcomes : List Outcome) (ending : Ending) (b : Bool) → all_sent outcomes ≡ b → CallsUp told a d outcomes ending → PutLines out0 out1 outcomes → SendsSo told a d out0 out1 outcomes (status_of ending b)
-sends_by told a d out0 out1 outcomes (Lost logon) b e h p = ((Lost logon, h), some_rose told a d outcomes logon h, p)
-sends_by told a d out0 out1 outcomes (Over Pending) b e h p = (went_well told a d outcomes Pending h, p)
-sends_by told a d out0 out1 outcomes (Over Granted) true e h p = (went_well told a d outcomes Granted h, e, p)
-sends_by told a d out0 out1 outcomes (Over Granted) false e h p = (went_well told a d outcomes Granted h, e, p)
+sends_by : (told : Told) (address : List ℕ) (a d : Line) (out0 out1 : Written ℕ) (outcomes : List Outcome) (ending : Ending) (b : Bool) → all_sent outcomes ≡ b → CallsUp told address a d outcomes ending → PutLines out0 out1 outcomes → SendsSo told address a d out0 out1 outcomes (status_of ending b)
+sends_by told address a d out0 out1 outcomes (Lost logon) b e h p = ((Lost logon, h), some_rose told address a d outcomes logon h, p)
+sends_by told address a d out0 out1 outcomes (Over Pending) b e h p = (went_well told address a d outcomes Pending h, p)
+sends_by told address a d out0 out1 outcomes (Over Granted) true e h p = (went_well told address a d outcomes Granted h, e, p)
+sends_by told address a d out0 out1 outcomes (Over Granted) false e h p = (went_well told address a d outcomes Granted h, e, p)
 
 -- the lines were put
-pub sent_so : {T E : Type 0} (told : Told) (a d : Line) (out0 out1 : Written ℕ) (outcomes : List Outcome) (ending : Ending) (x : T) (status : Status) → CallsUp told a d outcomes ending → Puts {E = E} out0 out1 (outcome_lines outcomes) (Ok x)
-    → status ≡ status_of ending (all_sent outcomes) → HasSent told a d out0 out1 status
-sent_so told a d out0 out1 outcomes ending x status h p e = record {
+pub sent_so : {T E : Type 0} (told : Told) (address : List ℕ) (a d : Line) (out0 out1 : Written ℕ) (outcomes : List Outcome) (ending : Ending) (x : T) (status : Status) → CallsUp told address a d outcomes ending → Puts {E = E} out0 out1 (outcome_lines outcomes) (Ok x)
+    → status ≡ status_of ending (all_sent outcomes) → HasSent told address a d out0 out1 status
+sent_so told address a d out0 out1 outcomes ending x status h p e = record {
   outcomes = outcomes;
-  sends = subst (SendsSo told a d out0 out1 outcomes) (sym e) (sends_by told a d out0 out1 outcomes ending (all_sent outcomes) refl h (record { tells = p.tells; held = p.held; faults = p.faults.kept; lent = p.lent }));
-  wire_well = none_rose told a d outcomes ending h;
+  sends = subst (SendsSo told address a d out0 out1 outcomes) (sym e) (sends_by told address a d out0 out1 outcomes ending (all_sent outcomes) refl h (record { tells = p.tells; held = p.held; faults = p.faults.kept; lent = p.lent }));
+  wire_well = none_rose told address a d outcomes ending h;
   out_well = λ t s f. p.faults.kept;
 }
 
 -- a put failed
-pub unput_so : {T E : Type 0} (told : Told) (a d : Line) (out0 out1 : Written ℕ) (outcomes : List Outcome) (ending : Ending) (x : E) → length told.pages ≤ 1000 → CallsUp told a d outcomes ending → Puts {T = T} out0 out1 (outcome_lines outcomes) (Err x)
-    → HasSent told a d out0 out1 OutFault
-unput_so {T} {E} told a d out0 out1 outcomes ending x few h p = record {
+pub unput_so : {T E : Type 0} (told : Told) (address : List ℕ) (a d : Line) (out0 out1 : Written ℕ) (outcomes : List Outcome) (ending : Ending) (x : E) → length told.pages ≤ 1000 → CallsUp told address a d outcomes ending → Puts {T = T} out0 out1 (outcome_lines outcomes) (Err x)
+    → HasSent told address a d out0 out1 OutFault
+unput_so {T} {E} told address a d out0 out1 outcomes ending x few h p = record {
   outcomes = outcomes;
   sends = ((ending, h), record { tells = p.tells; held = p.held; faults = p.faults.failed; lent = p.lent; unsteady = λ t s f. no_ok T E x (p.steady t s f).0 });
-  wire_well = none_rose told a d outcomes ending h;
-  out_well = λ t s f. no_ok T E x (p.steady t s (lines_fit told a d outcomes ending out0.room h few f)).0;
+  wire_well = none_rose told address a d outcomes ending h;
+  out_well = λ t s f. no_ok T E x (p.steady t s (lines_fit told address a d outcomes ending out0.room h few f)).0;
 }

@@ -29,7 +29,7 @@ use Rattle.station.proofs.Lists.{all-append, all-map}
 pub silent_speaks : (a : Line) → Speaks {E = Failed} a a [] (Ok (tt {0}))
 silent_speaks a = record {
   tells = refl;
-  around = record { count = refl; others = λ _ _. refl; heard = λ _. record { heard = refl; rest = refl; turns = refl }; opened = refl; is_open = refl; gate = refl; hear = refl; hang = refl; lent = refl };
+  around = record { count = refl; others = λ _ _. refl; heard = λ _. record { heard = refl; rest = refl; turns = refl }; opened = refl; is_open = refl; asked = refl; gate = refl; hear = refl; hang = refl; lent = refl };
   said = λ _. sym (append-nil _);
   room = λ _. refl;
   steady = λ _ s _ _. (refl, s);

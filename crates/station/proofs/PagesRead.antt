@@ -47,27 +47,27 @@ read_pages name a b bytes seen told same read file = record {
 }
 
 -- the file is refused
-unsent : (name : List ℕ) (w : Line) (a b : Files) (o : Written ℕ) (bytes seen : List ℕ) (fault : PagesFault) → seen ≡ bytes → ReadInto name a b bytes → IsRefused seen fault
-    → (fault ≡ Pages.Memory → ⊥) → SendRow name (record { wire = w; shelf = a; out = o }) (record { wire = w; shelf = b; out = o }) (Misread fault)
-unsent name w a b o bytes seen Pages.Memory same read refused other = absurd (other refl)
-unsent name w a b o bytes seen fault same read refused other = (
+unsent : (address name : List ℕ) (w : Line) (a b : Files) (o : Written ℕ) (bytes seen : List ℕ) (fault : PagesFault) → seen ≡ bytes → ReadInto name a b bytes → IsRefused seen fault
+    → (fault ≡ Pages.Memory → ⊥) → SendRow address name (record { wire = w; shelf = a; out = o }) (record { wire = w; shelf = b; out = o }) (Misread fault)
+unsent address name w a b o bytes seen Pages.Memory same read refused other = absurd (other refl)
+unsent address name w a b o bytes seen fault same read refused other = (
   record { unharmed = read.unharmed; there = read.there; refused = λ t. is_refused (a.file name) fault (subst (λ (xs : List ℕ). IsRefused xs fault) (same ∙ read.bytes_are t) refused) },
   record { wire = refl; out = refl },
 )
 
-pub refused_row : (name : List ℕ) (w : Line) (a b : Files) (o : Written ℕ) (bytes seen : List ℕ) (fault : PagesFault) (outcome : Outcome) → seen ≡ bytes → ReadInto name a b bytes
-    → IsRefused seen fault → ComesWithout fault outcome → SendRow name (record { wire = w; shelf = a; out = o }) (record { wire = w; shelf = b; out = o }) outcome
-refused_row name w a b o bytes seen fault (Ended status) same read refused h =
-    subst (λ (s : Status). SendRow name (record { wire = w; shelf = a; out = o }) (record { wire = w; shelf = b; out = o }) (Ended s)) (sym h.0)
+pub refused_row : (address name : List ℕ) (w : Line) (a b : Files) (o : Written ℕ) (bytes seen : List ℕ) (fault : PagesFault) (outcome : Outcome) → seen ≡ bytes → ReadInto name a b bytes
+    → IsRefused seen fault → ComesWithout fault outcome → SendRow address name (record { wire = w; shelf = a; out = o }) (record { wire = w; shelf = b; out = o }) outcome
+refused_row address name w a b o bytes seen fault (Ended status) same read refused h =
+    subst (λ (s : Status). SendRow address name (record { wire = w; shelf = a; out = o }) (record { wire = w; shelf = b; out = o }) (Ended s)) (sym h.0)
     (read.unharmed, record { wire = refl; out = refl })
-refused_row name w a b o bytes seen fault (Refused other) same read refused h = elim h [ ]
-refused_row name w a b o bytes seen fault (Misread other) same read refused h =
-    subst (λ (f : PagesFault). SendRow name (record { wire = w; shelf = a; out = o }) (record { wire = w; shelf = b; out = o }) (Misread f)) (sym h.0)
-    (unsent name w a b o bytes seen fault same read refused h.1)
+refused_row address name w a b o bytes seen fault (Refused other) same read refused h = elim h [ ]
+refused_row address name w a b o bytes seen fault (Misread other) same read refused h =
+    subst (λ (f : PagesFault). SendRow address name (record { wire = w; shelf = a; out = o }) (record { wire = w; shelf = b; out = o }) (Misread f)) (sym h.0)
+    (unsent address name w a b o bytes seen fault same read refused h.1)
 
 -- the pages were sent
-pub sent_row : (name : List ℕ) (old new : Around) (told : Told) (status : Status) → ReadPages name old.shelf new.shelf told → HasSent told old.wire new.wire old.out new.out status
-    → SendRow name old new (Ended status)
-sent_row name old new told Memory read sends = elim sends.sends [ ]
-sent_row name old new told FileFault read sends = elim sends.sends [ ]
-sent_row name old new told status read sends = record { told = told; read = read; sends = sends }
+pub sent_row : (address name : List ℕ) (old new : Around) (told : Told) (status : Status) → ReadPages name old.shelf new.shelf told → HasSent told address old.wire new.wire old.out new.out status
+    → SendRow address name old new (Ended status)
+sent_row address name old new told Memory read sends = elim sends.sends [ ]
+sent_row address name old new told FileFault read sends = elim sends.sends [ ]
+sent_row address name old new told status read sends = record { told = told; read = read; sends = sends }

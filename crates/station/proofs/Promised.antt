@@ -119,25 +119,25 @@ served_send bytes old sessions read = λ t.
       heard = λ capcodes now u near. HearNear-from capcodes now u (accepted_in sessions) all near;
     }
 
-fault_promise : (bytes : List ℕ) (settings : Parts) (spare : ℕ) (first old new : Around) (name : List ℕ) (most : ℕ) (h : AtFreshFault settings spare old new name most ⊎ AtAppendFault settings spare old new name most)
-    → (IsTrue first.shelf.tells → settings_of bytes ≡ Ok settings) → FaultPromise settings spare first old new name most h
-fault_promise bytes settings spare first old new name most (inl fresh) read = tt
-fault_promise bytes settings spare first old new name most (inr fault) read = served_send bytes first fault.sessions read
+fault_promise : (bytes : List ℕ) (settings : Parts) (spare : ℕ) (first old new : Around) (address name : List ℕ) (most : ℕ) (h : AtFreshFault settings spare old new name most ⊎ AtAppendFault settings spare old new address name most)
+    → (IsTrue first.shelf.tells → settings_of bytes ≡ Ok settings) → FaultPromise settings spare first old new address name most h
+fault_promise bytes settings spare first old new address name most (inl fresh) read = tt
+fault_promise bytes settings spare first old new address name most (inr fault) read = served_send bytes first fault.sessions read
 
-file_promise : (settings air : List ℕ) (count : ℕ) (old new : Around) (row : (Unreadable settings old.shelf new.shelf × KeepsAround old new) ⊎ ServedBy settings air count old new FileFault)
-    → FilePromise settings air count old new row
-file_promise settings air count old new (inl unread) = tt
-file_promise settings air count old new (inr by) = fault_promise (old.shelf.file settings) by.parts by.parts.cells old (with_shelf old by.shelf) new air count by.served by.read.settings_are
+file_promise : (address settings air : List ℕ) (count : ℕ) (old new : Around) (row : (Unreadable settings old.shelf new.shelf × KeepsAround old new) ⊎ ServedBy address settings air count old new FileFault)
+    → FilePromise address settings air count old new row
+file_promise address settings air count old new (inl unread) = tt
+file_promise address settings air count old new (inr by) = fault_promise (old.shelf.file settings) by.parts by.parts.cells old (with_shelf old by.shelf) new address air count by.served by.read.settings_are
 
-station_promise : (settings air : List ℕ) (count : ℕ) (old new : Around) (outcome : Outcome) (row : StationRow settings air count old new outcome)
-    → StationPromise settings air count old new outcome row
-station_promise settings air count old new (Refused fault) row = tt
-station_promise settings air count old new (Misread fault) row = tt
-station_promise settings air count old new (Ended Done) row = served_send (old.shelf.file settings) old row.served.sessions row.read.settings_are
-station_promise settings air count old new (Ended WireFault) row = served_send (old.shelf.file settings) old row.served.sessions row.read.settings_are
-station_promise settings air count old new (Ended OutFault) row = served_send (old.shelf.file settings) old (row.served.sessions ++ row.served.unreported ∷ []) row.read.settings_are
-station_promise settings air count old new (Ended FileFault) row = file_promise settings air count old new row
-station_promise settings air count old new (Ended status) row = tt
+station_promise : (address settings air : List ℕ) (count : ℕ) (old new : Around) (outcome : Outcome) (row : StationRow address settings air count old new outcome)
+    → StationPromise address settings air count old new outcome row
+station_promise address settings air count old new (Refused fault) row = tt
+station_promise address settings air count old new (Misread fault) row = tt
+station_promise address settings air count old new (Ended Done) row = served_send (old.shelf.file settings) old row.served.sessions row.read.settings_are
+station_promise address settings air count old new (Ended WireFault) row = served_send (old.shelf.file settings) old row.served.sessions row.read.settings_are
+station_promise address settings air count old new (Ended OutFault) row = served_send (old.shelf.file settings) old (row.served.sessions ++ row.served.unreported ∷ []) row.read.settings_are
+station_promise address settings air count old new (Ended FileFault) row = file_promise address settings air count old new row
+station_promise address settings air count old new (Ended status) row = tt
 
 -- ---- a run
 
@@ -151,7 +151,7 @@ promised (name ∷ w ∷ words) (Some (Play air capcodes)) old new outcome acts 
     HearNear-from capcodes (bytes_bits (old.shelf.file air)) (AreUsable-words words capcodes h.1.2.say)
 promised words (Some (Show air)) old new outcome acts h = tt
 promised words (Some (Send address pages)) old new outcome acts h = tt
-promised words (Some (Station address settings air count)) old new outcome acts h = station_promise settings air count _ _ outcome acts.row
+promised words (Some (Station address settings air count)) old new outcome acts h = station_promise address settings air count _ _ outcome acts.row
 promised [] (Some (Trial settings noise capcodes)) old new outcome acts h = elim h [ ]
 promised (name ∷ []) (Some (Trial settings noise capcodes)) old new outcome acts h = elim h.1 [ ]
 promised (name ∷ s ∷ []) (Some (Trial settings noise capcodes)) old new outcome acts h = elim h.1 [ ]

@@ -69,12 +69,13 @@ pub opened_so : {E : Type 0} (was mid : Line) (b v : Bool) → b ≡ v → Opens
 opened_so {E} was mid b v e h = subst (λ (x : Bool). Opens {E = E} was mid (Ok x)) e h
 
 -- `next` found no further connection
-pub at_done : {E : Type 0} (settings : Parts) (spare most : ℕ) (first : Around) (w mid : Line) (f : Files) (o : Written ℕ) (name : List ℕ) (pool : Pool) (ss : List (Served settings spare))
-    → SoFar first (record { wire = w; shelf = f; out = o }) name most pool ss → length ss ≤ most → Opens {E = E} w mid (Ok false) → AtDone settings spare first (record { wire = mid; shelf = f; out = o }) name most
-at_done settings spare most first w mid f o name pool ss so few h = record {
+pub at_done : {E : Type 0} (settings : Parts) (spare most : ℕ) (first : Around) (w mid : Line) (f : Files) (o : Written ℕ) (address name : List ℕ) (pool : Pool) (ss : List (Served settings spare))
+    → SoFar first (record { wire = w; shelf = f; out = o }) address name most pool ss → length ss ≤ most → Opens {E = E} w mid (Ok false) → AtDone settings spare first (record { wire = mid; shelf = f; out = o }) address name most
+at_done settings spare most first w mid f o address name pool ss so few h = record {
   sessions = ss;
   few = few;
   wire = wire_same first.wire w mid ss so.wire h.keeps.tells h.keeps.count h.keeps.lent (λ t. (h.not_opened t refl).0) h.connections;
+  asked = λ t. h.asked ∙ so.asked t;
   well = λ fit. let b = so.well fit in record {
     hear = h.others.hear ∙ b.hear;
     say = h.others.say ∙ b.say;
@@ -91,12 +92,13 @@ at_done settings spare most first w mid f o name pool ss so few h = record {
 }
 
 -- `next` failed
-pub at_wire_fault : {E : Type 0} (settings : Parts) (spare most : ℕ) (first : Around) (w mid : Line) (f : Files) (o : Written ℕ) (name : List ℕ) (pool : Pool) (e : E) (ss : List (Served settings spare))
-    → SoFar first (record { wire = w; shelf = f; out = o }) name most pool ss → length ss ≤ most → Opens w mid (Err e) → AtWireFault settings spare first (record { wire = mid; shelf = f; out = o }) name most
-at_wire_fault {E} settings spare most first w mid f o name pool e ss so few h = record {
+pub at_wire_fault : {E : Type 0} (settings : Parts) (spare most : ℕ) (first : Around) (w mid : Line) (f : Files) (o : Written ℕ) (address name : List ℕ) (pool : Pool) (e : E) (ss : List (Served settings spare))
+    → SoFar first (record { wire = w; shelf = f; out = o }) address name most pool ss → length ss ≤ most → Opens w mid (Err e) → AtWireFault settings spare first (record { wire = mid; shelf = f; out = o }) address name most
+at_wire_fault {E} settings spare most first w mid f o address name pool e ss so few h = record {
   sessions = ss;
   few = few;
   wire = wire_same first.wire w mid ss so.wire h.keeps.tells h.keeps.count h.keeps.lent (λ t. (h.failed t).0) h.connections;
+  asked = λ t. h.asked ∙ so.asked t;
   unfit = λ fit. no_ok Bool E e (h.steady (still so.wire.tells fit.tells) (so.well fit).steady).0;
   file = so.file;
   out = so.out;
@@ -106,20 +108,20 @@ at_wire_fault {E} settings spare most first w mid f o name pool e ss so few h = 
 }
 
 -- over a fit shelf the append is proper
-append_fits : {T E F : Type 0} (settings : Parts) (spare most : ℕ) (first : Around) (w : Line) (f f2 : Files) (o : Written ℕ) (name : List ℕ) (pool pool1 pool2 : Pool) (r : Result T E) (ss : List (Served settings spare)) (s : Served settings spare)
-    → SoFar first (record { wire = w; shelf = f; out = o }) name most pool ss → length ss + 1 ≤ most → Opens {E = F} w s.before (Ok true) → (sends : SendsTo pool1 pool2 f f2 name r) → s.bits ≡ sends.bits
+append_fits : {T E F : Type 0} (settings : Parts) (spare most : ℕ) (first : Around) (w : Line) (f f2 : Files) (o : Written ℕ) (address name : List ℕ) (pool pool1 pool2 : Pool) (r : Result T E) (ss : List (Served settings spare)) (s : Served settings spare)
+    → SoFar first (record { wire = w; shelf = f; out = o }) address name most pool ss → length ss + 1 ≤ most → Opens {E = F} w s.before (Ok true) → (sends : SendsTo pool1 pool2 f f2 name r) → s.bits ≡ sends.bits
     → FitShelf settings spare first.wire first.shelf name most → length sends.bits ≤ 8 * f.room name
-append_fits settings spare most first w f f2 o name pool pool1 pool2 r ss s so few h sends same fit =
+append_fits settings spare most first w f f2 o address name pool pool1 pool2 r ss s so few h sends same fit =
     let total : length (airs (ss ++ s ∷ [])) ≤ 8 * first.shelf.fresh_room = fit.fits s.after (ss ++ s ∷ []) (wire_more first.wire w ss s so.wire h) (omega (arith, few, length-append ss (s ∷ []))) in
     let split : length (airs (ss ++ s ∷ [])) ≡ length (airs ss) + length sends.bits = ap length (airs-append ss s) ∙ (length-append (airs ss) s.bits ∙ ap (λ (b : List Bool). length (airs ss) + length b) same) in
     let room : 8 * f.room name + length (airs ss) ≡ 8 * first.shelf.fresh_room = so.file.room fit.tells in
     omega (arith, total, split, room)
 
 -- the append failed
-pub at_append_fault : {T E F : Type 0} (settings : Parts) (spare most : ℕ) (first : Around) (w mid after : Line) (f f2 : Files) (o : Written ℕ) (name : List ℕ) (empty pool pool2 : Pool) (desk : Desk) (end : SessionEnd) (e : E) (ss : List (Served settings spare))
-    → SoFar first (record { wire = w; shelf = f; out = o }) name most empty ss → length ss + 1 ≤ most → Opens {E = F} w mid (Ok true) → Ran settings spare mid after empty pool desk end → Closes settings spare mid after
-    → SendsTo {T = T} pool pool2 f f2 name (Err e) → AtAppendFault settings spare first (record { wire = after; shelf = f2; out = o }) name most
-at_append_fault {T} {E} settings spare most first w mid after f f2 o name empty pool pool2 desk end e ss so few h ran closes sends =
+pub at_append_fault : {T E F : Type 0} (settings : Parts) (spare most : ℕ) (first : Around) (w mid after : Line) (f f2 : Files) (o : Written ℕ) (address name : List ℕ) (empty pool pool2 : Pool) (desk : Desk) (end : SessionEnd) (e : E) (ss : List (Served settings spare))
+    → SoFar first (record { wire = w; shelf = f; out = o }) address name most empty ss → length ss + 1 ≤ most → Opens {E = F} w mid (Ok true) → Ran settings spare mid after empty pool desk end → Closes settings spare mid after
+    → SendsTo {T = T} pool pool2 f f2 name (Err e) → AtAppendFault settings spare first (record { wire = after; shelf = f2; out = o }) address name most
+at_append_fault {T} {E} settings spare most first w mid after f f2 o address name empty pool pool2 desk end e ss so few h ran closes sends =
     let s = made settings spare mid after empty pool pool2 desk end f f2 name (Err e) so.no_page ran closes sends in
     let cut = front_at f.tells (bytes_bits (f.file name)) (bytes_bits (f2.file name)) sends.bits sends.bits_are in
     let told : IsTrue first.shelf.tells → IsTrue f.tells = λ t. still so.file.tells t in
@@ -130,6 +132,7 @@ at_append_fault {T} {E} settings spare most first w mid after f f2 o name empty 
       front = take cut.0 sends.bits;
       few = omega (arith, few, length-append ss (s ∷ []));
       wire = wire_more first.wire w ss s so.wire h;
+      asked = λ t. ran.line.asked ∙ (h.asked ∙ so.asked t);
       well = well_more first.wire w ss s so.wire h so.well;
       front_is = record { rest = drop cut.0 sends.bits; is = sym (take-append-drop cut.0 sends.bits) };
       file = record {
@@ -141,7 +144,7 @@ at_append_fault {T} {E} settings spare most first w mid after f f2 o name empty 
         others = λ n ne. same_then first.shelf f f2 n (so.file.others n ne) (sends.others n ne);
         lent = sends.lent ∙ so.file.lent;
       };
-      unfit = λ fit. no_ok T E e (sends.steady (told fit.tells) (so.file_well fit) (so.file.fresh fit.tells) (append_fits settings spare most first w f f2 o name empty pool pool2 (Err e) ss s so few h sends refl fit)).0;
+      unfit = λ fit. no_ok T E e (sends.steady (told fit.tells) (so.file_well fit) (so.file.fresh fit.tells) (append_fits settings spare most first w f f2 o address name empty pool pool2 (Err e) ss s so few h sends refl fit)).0;
       out = so.out;
       gate = omega (arith, ran.line.gate, h.cause.kept, so.gate);
       shelf_faults = subst (λ (n : ℕ). Rose n f2.faults) so.shelf_faults sends.cause.failed;
@@ -165,18 +168,18 @@ file_more settings spare f0 f f2 name pool pool2 x ss s h sends a =
     }
 
 -- over a fit output the line is proper
-line_fits : (settings : Parts) (spare most : ℕ) (first : Around) (w : Line) (f : Files) (o : Written ℕ) (name : List ℕ) (pool : Pool) (ss : List (Served settings spare)) (line : List ℕ)
-    → SoFar first (record { wire = w; shelf = f; out = o }) name most pool ss → length ss + 1 ≤ most → length line ≤ longest_line → FitOut first.out most → length line ≤ o.room
-line_fits settings spare most first w f o name pool ss line so few short fit =
+line_fits : (settings : Parts) (spare most : ℕ) (first : Around) (w : Line) (f : Files) (o : Written ℕ) (address name : List ℕ) (pool : Pool) (ss : List (Served settings spare)) (line : List ℕ)
+    → SoFar first (record { wire = w; shelf = f; out = o }) address name most pool ss → length ss + 1 ≤ most → length line ≤ longest_line → FitOut first.out most → length line ≤ o.room
+line_fits settings spare most first w f o address name pool ss line so few short fit =
     let room : o.room + length (lines 1 ss) ≡ first.out.room = so.out.room fit.tells in
     omega (arith, room, so.short, few, short, fit.fits)
 
 -- putting the line failed
-pub at_out_fault : {T U E F G : Type 0} (settings : Parts) (spare most : ℕ) (first : Around) (w mid after : Line) (f f2 : Files) (o o2 : Written ℕ) (name : List ℕ) (empty pool pool2 : Pool) (desk : Desk) (end : SessionEnd) (report : Report) (number : ℕ) (x : T) (e : E) (ss : List (Served settings spare))
-    → SoFar first (record { wire = w; shelf = f; out = o }) name most empty ss → length ss + 1 ≡ number → number ≤ most → Opens {E = F} w mid (Ok true) → (ran : Ran settings spare mid after empty pool desk end) → Closes settings spare mid after
+pub at_out_fault : {T U E F G : Type 0} (settings : Parts) (spare most : ℕ) (first : Around) (w mid after : Line) (f f2 : Files) (o o2 : Written ℕ) (address name : List ℕ) (empty pool pool2 : Pool) (desk : Desk) (end : SessionEnd) (report : Report) (number : ℕ) (x : T) (e : E) (ss : List (Served settings spare))
+    → SoFar first (record { wire = w; shelf = f; out = o }) address name most empty ss → length ss + 1 ≡ number → number ≤ most → Opens {E = F} w mid (Ok true) → (ran : Ran settings spare mid after empty pool desk end) → Closes settings spare mid after
     → SendsTo {E = G} pool pool2 f f2 name (Ok x) → report ≡ ran.session.report → length (report_line number end report) ≤ longest_line → Puts {T = U} o o2 (report_line number end report) (Err e)
-    → AtOutFault settings spare first (record { wire = after; shelf = f2; out = o2 }) name most
-at_out_fault {T} {U} {E} settings spare most first w mid after f f2 o o2 name empty pool pool2 desk end report number x e ss so num few h ran closes sends same short puts =
+    → AtOutFault settings spare first (record { wire = after; shelf = f2; out = o2 }) address name most
+at_out_fault {T} {U} {E} settings spare most first w mid after f f2 o o2 address name empty pool pool2 desk end report number x e ss so num few h ran closes sends same short puts =
     let s = made settings spare mid after empty pool pool2 desk end f f2 name (Ok x) so.no_page ran closes sends in
     let cut = front_at o.tells o.held o2.held (report_line number end report) puts.held in
     let told : IsTrue first.out.tells → IsTrue o.tells = λ t. still so.out.tells t in
@@ -189,6 +192,7 @@ at_out_fault {T} {U} {E} settings spare most first w mid after f f2 o o2 name em
       front = front;
       few = omega (arith, num, few, length-append ss (s ∷ []));
       wire = wire_more first.wire w ss s so.wire h;
+      asked = λ t. ran.line.asked ∙ (h.asked ∙ so.asked t);
       well = well_more first.wire w ss s so.wire h so.well;
       file = file_more settings spare first.shelf f f2 name pool pool2 x ss s so.file sends refl;
       front_is = record {
@@ -201,7 +205,7 @@ at_out_fault {T} {U} {E} settings spare most first w mid after f f2 o o2 name em
         room = λ t. omega (arith, puts.room (told t), so.out.room t, ap length (held t), ap length (so.out.held t), length-append first.out.held (lines 1 ss ++ front), length-append first.out.held (lines 1 ss));
         lent = puts.lent ∙ so.out.lent;
       };
-      unfit = λ fit. no_ok U E e (puts.steady (told fit.tells) (so.out_well fit) (line_fits settings spare most first w f o name empty ss (report_line number end report) so (omega (arith, num, few)) short fit)).0;
+      unfit = λ fit. no_ok U E e (puts.steady (told fit.tells) (so.out_well fit) (line_fits settings spare most first w f o address name empty ss (report_line number end report) so (omega (arith, num, few)) short fit)).0;
       gate = omega (arith, ran.line.gate, h.cause.kept, so.gate);
       shelf_faults = sends.cause.kept ∙ so.shelf_faults;
       out_faults = subst (λ (n : ℕ). Rose n o2.faults) so.out_faults puts.faults.failed;
@@ -212,11 +216,11 @@ pub all_spare : (pool : Pool) → pool.live ≡ [] → cells pool ≡ pool.spare
 all_spare pool none = let e : in_use pool.live ≡ 0 = ap in_use none in omega (arith, e)
 
 -- one session more was served, sent and reported
-pub one_more : {T U E F G : Type 0} (settings : Parts) (spare most : ℕ) (first : Around) (w mid after : Line) (f f2 : Files) (o o2 : Written ℕ) (name : List ℕ) (empty pool pool2 : Pool) (desk : Desk) (end : SessionEnd) (report : Report) (number : ℕ) (x : T) (y : U) (ss : List (Served settings spare))
-    → SoFar first (record { wire = w; shelf = f; out = o }) name most empty ss → length ss + 1 ≡ number → number ≤ most → Opens {E = F} w mid (Ok true) → (ran : Ran settings spare mid after empty pool desk end) → Closes settings spare mid after
+pub one_more : {T U E F G : Type 0} (settings : Parts) (spare most : ℕ) (first : Around) (w mid after : Line) (f f2 : Files) (o o2 : Written ℕ) (address name : List ℕ) (empty pool pool2 : Pool) (desk : Desk) (end : SessionEnd) (report : Report) (number : ℕ) (x : T) (y : U) (ss : List (Served settings spare))
+    → SoFar first (record { wire = w; shelf = f; out = o }) address name most empty ss → length ss + 1 ≡ number → number ≤ most → Opens {E = F} w mid (Ok true) → (ran : Ran settings spare mid after empty pool desk end) → Closes settings spare mid after
     → SendsTo {E = G} pool pool2 f f2 name (Ok x) → report ≡ ran.session.report → length (report_line number end report) ≤ longest_line → Puts {E = E} o o2 (report_line number end report) (Ok y)
-    → (sessions : List (Served settings spare)) × SoFar first (record { wire = after; shelf = f2; out = o2 }) name most pool2 sessions × (length sessions ≡ number)
-one_more settings spare most first w mid after f f2 o o2 name empty pool pool2 desk end report number x y ss so num few h ran closes sends same short puts =
+    → (sessions : List (Served settings spare)) × SoFar first (record { wire = after; shelf = f2; out = o2 }) address name most pool2 sessions × (length sessions ≡ number)
+one_more settings spare most first w mid after f f2 o o2 address name empty pool pool2 desk end report number x y ss so num few h ran closes sends same short puts =
     let s = made settings spare mid after empty pool pool2 desk end f f2 name (Ok x) so.no_page ran closes sends in
     let told : IsTrue first.out.tells → IsTrue o.tells = λ t. still so.out.tells t in
     let line : report_line number end report ≡ line_for (1 + length ss) s =
@@ -227,16 +231,17 @@ one_more settings spare most first w mid after f f2 o o2 name empty pool pool2 d
       ss ++ s ∷ [],
       record {
         wire = wire_more first.wire w ss s so.wire h;
+        asked = λ t. ran.line.asked ∙ (h.asked ∙ so.asked t);
         well = well_more first.wire w ss s so.wire h so.well;
         file = file_more settings spare first.shelf f f2 name pool pool2 x ss s so.file sends refl;
-        file_well = λ fit. (sends.steady (still so.file.tells fit.tells) (so.file_well fit) (so.file.fresh fit.tells) (append_fits settings spare most first w f f2 o name empty pool pool2 (Ok x) ss s so (omega (arith, num, few)) h sends refl fit)).1;
+        file_well = λ fit. (sends.steady (still so.file.tells fit.tells) (so.file_well fit) (so.file.fresh fit.tells) (append_fits settings spare most first w f f2 o address name empty pool pool2 (Ok x) ss s so (omega (arith, num, few)) h sends refl fit)).1;
         out = record {
           tells = puts.tells ∙ so.out.tells;
           held = held;
           room = λ t. omega (arith, puts.room (told t), so.out.room t, ap length (held t), ap length (so.out.held t), length-append first.out.held (lines 1 (ss ++ s ∷ [])), length-append first.out.held (lines 1 ss));
           lent = puts.lent ∙ so.out.lent;
         };
-        out_well = λ fit. (puts.steady (told fit.tells) (so.out_well fit) (line_fits settings spare most first w f o name empty ss (report_line number end report) so (omega (arith, num, few)) short fit)).1;
+        out_well = λ fit. (puts.steady (told fit.tells) (so.out_well fit) (line_fits settings spare most first w f o address name empty ss (report_line number end report) so (omega (arith, num, few)) short fit)).1;
         short = omega (arith, so.short, short, ap length more, length-append (lines 1 ss) (report_line number end report), length-append ss (s ∷ []));
         gate = omega (arith, ran.line.gate, h.cause.kept, so.gate);
         shelf_faults = sends.cause.kept ∙ so.shelf_faults;
@@ -260,12 +265,13 @@ file_begins f0 f name x fr = record {
 }
 
 -- `listen` failed
-pub at_listen : {T E F : Type 0} (settings : Parts) (spare most : ℕ) (w0 w : Line) (f0 f : Files) (o : Written ℕ) (name : List ℕ) (x : T) (e : F) → Freshens {E = E} f0 f name (Ok x) → Listens {T = T} w0 w (Err e)
-    → AtWireFault settings spare (record { wire = w0; shelf = f0; out = o }) (record { wire = w; shelf = f; out = o }) name most
-at_listen {T} {E} {F} settings spare most w0 w f0 f o name x e fr h = record {
+pub at_listen : {T E F : Type 0} (settings : Parts) (spare most : ℕ) (w0 w : Line) (f0 f : Files) (o : Written ℕ) (address name : List ℕ) (x : T) (e : F) → Freshens {E = E} f0 f name (Ok x) → Listens {T = T} w0 w address (Err e)
+    → AtWireFault settings spare (record { wire = w0; shelf = f0; out = o }) (record { wire = w; shelf = f; out = o }) address name most
+at_listen {T} {E} {F} settings spare most w0 w f0 f o address name x e fr h = record {
   sessions = [];
   few = omega arith;
   wire = wire_begins w0 w h.keeps.tells h.keeps.count h.keeps.lent h.opened h.connections;
+  asked = h.asked;
   unfit = λ fit. no_ok T F e (h.steady fit.tells fit.steady).0;
   file = file_begins f0 f name x fr;
   out = record { tells = refl; held = λ _. sym (append-nil o.held); room = λ _. omega arith; lent = refl };
@@ -275,10 +281,11 @@ at_listen {T} {E} {F} settings spare most w0 w f0 f o name x e fr h = record {
 }
 
 -- serving begins
-pub begun : {T U E F : Type 0} (settings : Parts) (spare most : ℕ) (w0 w : Line) (f0 f : Files) (o : Written ℕ) (name : List ℕ) (pool : Pool) (x : T) (y : U) → Freshens {E = E} f0 f name (Ok x) → Listens {E = F} w0 w (Ok y) → pool.live ≡ [] → pool.spare ≡ spare
-    → SoFar {settings = settings} {spare = spare} (record { wire = w0; shelf = f0; out = o }) (record { wire = w; shelf = f; out = o }) name most pool []
-begun settings spare most w0 w f0 f o name pool x y fr h none all = record {
+pub begun : {T U E F : Type 0} (settings : Parts) (spare most : ℕ) (w0 w : Line) (f0 f : Files) (o : Written ℕ) (address name : List ℕ) (pool : Pool) (x : T) (y : U) → Freshens {E = E} f0 f name (Ok x) → Listens {E = F} w0 w address (Ok y) → pool.live ≡ [] → pool.spare ≡ spare
+    → SoFar {settings = settings} {spare = spare} (record { wire = w0; shelf = f0; out = o }) (record { wire = w; shelf = f; out = o }) address name most pool []
+begun settings spare most w0 w f0 f o address name pool x y fr h none all = record {
   wire = wire_begins w0 w h.keeps.tells h.keeps.count h.keeps.lent h.opened h.connections;
+  asked = h.asked;
   well = λ fit. record { hear = h.others.hear; say = h.others.say; hang = h.others.hang; steady = (h.steady fit.tells fit.steady).1; none_lost = tt };
   file = file_begins f0 f name x fr;
   file_well = λ fit. (fr.steady fit.tells fit.steady fit.proper).1;
@@ -293,12 +300,13 @@ begun settings spare most w0 w f0 f o name pool x y fr h none all = record {
 }
 
 -- as many connections as were wanted were served
-pub all_served : (settings : Parts) (spare most : ℕ) (first now : Around) (name : List ℕ) (pool : Pool) (ss : List (Served settings spare)) → SoFar first now name most pool ss → length ss ≡ most → AtDone settings spare first now name most
-all_served settings spare most first now name pool ss so n = record {
+pub all_served : (settings : Parts) (spare most : ℕ) (first now : Around) (address name : List ℕ) (pool : Pool) (ss : List (Served settings spare)) → SoFar first now address name most pool ss → length ss ≡ most → AtDone settings spare first now address name most
+all_served settings spare most first now address name pool ss so n = record {
   sessions = ss;
   few = omega (arith, n);
   all = inl n;
   wire = so.wire;
+  asked = so.asked;
   well = so.well;
   file = so.file;
   out = so.out;

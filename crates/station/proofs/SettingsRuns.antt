@@ -22,33 +22,33 @@ pub cells_spare : (w : Pool) (n : ℕ) → w.live ≡ [] → w.spare ≡ n → c
 cells_spare w n none spare = let used : in_use w.live ≡ 0 = ap in_use none in omega (arith, used, spare)
 
 -- connections were served by settings
-served_by : (settings air : List ℕ) (count : ℕ) (old new : Around) (parts s : Parts) (shelf : Files) (n : ℕ) (status : Status) → s ≡ parts → n ≡ parts.cells
-    → ReadSettings settings old.shelf shelf parts → HasServed s n (with_shelf old shelf) new air count status → ServedBy settings air count old new status
-served_by settings air count old new parts s shelf n status e k read h = record {
+served_by : (address settings air : List ℕ) (count : ℕ) (old new : Around) (parts s : Parts) (shelf : Files) (n : ℕ) (status : Status) → s ≡ parts → n ≡ parts.cells
+    → ReadSettings settings old.shelf shelf parts → HasServed s n (with_shelf old shelf) new address air count status → ServedBy address settings air count old new status
+served_by address settings air count old new parts s shelf n status e k read h = record {
   parts = parts;
   shelf = shelf;
   read = read;
-  served = subst (λ (m : ℕ). HasServed parts m (with_shelf old shelf) new air count status) k
-      (subst (λ (p : Parts). HasServed p n (with_shelf old shelf) new air count status) e h);
+  served = subst (λ (m : ℕ). HasServed parts m (with_shelf old shelf) new address air count status) k
+      (subst (λ (p : Parts). HasServed p n (with_shelf old shelf) new address air count status) e h);
 }
 
-pub station_row : (settings air : List ℕ) (count : ℕ) (old new : Around) (parts s : Parts) (shelf : Files) (n : ℕ) (status : Status) → s ≡ parts → n ≡ parts.cells
-    → ReadSettings settings old.shelf shelf parts → HasServed s n (with_shelf old shelf) new air count status → StationRow settings air count old new (Ended status)
-station_row settings air count old new parts s shelf n Memory e k read h = elim h [ ]
-station_row settings air count old new parts s shelf n FileFault e k read h = inr (served_by settings air count old new parts s shelf n FileFault e k read h)
-station_row settings air count old new parts s shelf n Usage e k read h = served_by settings air count old new parts s shelf n Usage e k read h
-station_row settings air count old new parts s shelf n Settings e k read h = served_by settings air count old new parts s shelf n Settings e k read h
-station_row settings air count old new parts s shelf n WireFault e k read h = served_by settings air count old new parts s shelf n WireFault e k read h
-station_row settings air count old new parts s shelf n OutFault e k read h = served_by settings air count old new parts s shelf n OutFault e k read h
-station_row settings air count old new parts s shelf n InputFault e k read h = served_by settings air count old new parts s shelf n InputFault e k read h
-station_row settings air count old new parts s shelf n NotBlock e k read h = served_by settings air count old new parts s shelf n NotBlock e k read h
-station_row settings air count old new parts s shelf n BadSum e k read h = served_by settings air count old new parts s shelf n BadSum e k read h
-station_row settings air count old new parts s shelf n BadText e k read h = served_by settings air count old new parts s shelf n BadText e k read h
-station_row settings air count old new parts s shelf n TooLong e k read h = served_by settings air count old new parts s shelf n TooLong e k read h
-station_row settings air count old new parts s shelf n LogonRefused e k read h = served_by settings air count old new parts s shelf n LogonRefused e k read h
-station_row settings air count old new parts s shelf n SomeUnsent e k read h = served_by settings air count old new parts s shelf n SomeUnsent e k read h
-station_row settings air count old new parts s shelf n BadPages e k read h = served_by settings air count old new parts s shelf n BadPages e k read h
-station_row settings air count old new parts s shelf n Done e k read h = served_by settings air count old new parts s shelf n Done e k read h
+pub station_row : (address settings air : List ℕ) (count : ℕ) (old new : Around) (parts s : Parts) (shelf : Files) (n : ℕ) (status : Status) → s ≡ parts → n ≡ parts.cells
+    → ReadSettings settings old.shelf shelf parts → HasServed s n (with_shelf old shelf) new address air count status → StationRow address settings air count old new (Ended status)
+station_row address settings air count old new parts s shelf n Memory e k read h = elim h [ ]
+station_row address settings air count old new parts s shelf n FileFault e k read h = inr (served_by address settings air count old new parts s shelf n FileFault e k read h)
+station_row address settings air count old new parts s shelf n Usage e k read h = served_by address settings air count old new parts s shelf n Usage e k read h
+station_row address settings air count old new parts s shelf n Settings e k read h = served_by address settings air count old new parts s shelf n Settings e k read h
+station_row address settings air count old new parts s shelf n WireFault e k read h = served_by address settings air count old new parts s shelf n WireFault e k read h
+station_row address settings air count old new parts s shelf n OutFault e k read h = served_by address settings air count old new parts s shelf n OutFault e k read h
+station_row address settings air count old new parts s shelf n InputFault e k read h = served_by address settings air count old new parts s shelf n InputFault e k read h
+station_row address settings air count old new parts s shelf n NotBlock e k read h = served_by address settings air count old new parts s shelf n NotBlock e k read h
+station_row address settings air count old new parts s shelf n BadSum e k read h = served_by address settings air count old new parts s shelf n BadSum e k read h
+station_row address settings air count old new parts s shelf n BadText e k read h = served_by address settings air count old new parts s shelf n BadText e k read h
+station_row address settings air count old new parts s shelf n TooLong e k read h = served_by address settings air count old new parts s shelf n TooLong e k read h
+station_row address settings air count old new parts s shelf n LogonRefused e k read h = served_by address settings air count old new parts s shelf n LogonRefused e k read h
+station_row address settings air count old new parts s shelf n SomeUnsent e k read h = served_by address settings air count old new parts s shelf n SomeUnsent e k read h
+station_row address settings air count old new parts s shelf n BadPages e k read h = served_by address settings air count old new parts s shelf n BadPages e k read h
+station_row address settings air count old new parts s shelf n Done e k read h = served_by address settings air count old new parts s shelf n Done e k read h
 
 -- the files that bits over a shelf hold
 abbrev files_of : Files → List Held → OtherFiles

@@ -17,6 +17,7 @@ talked_around a b c took gave gave2 turns t o s u f = record {
   count = u.count ∙ t.count;
   lent = u.lent ∙ t.lent;
   opened = u.opened ∙ t.opened;
+  asked = u.asked ∙ t.asked;
   grew = λ k p. subst (λ (m : ℕ). Grew (here a) (c.connection (m - 1)) took gave2 turns) t.opened
       (f (still t.tells k) (still o p) (subst (λ (m : ℕ). Grew (here a) (b.connection (m - 1)) took gave turns) (sym t.opened) (t.grew k p)));
   others = others_still a b c t.opened o t.others u;

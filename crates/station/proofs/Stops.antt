@@ -241,6 +241,7 @@ hung_up settings spare old mid now before pool desk end r u o h = record {
     count = h.keeps.count ∙ u.line.count;
     lent = h.keeps.lent ∙ u.line.lent;
     opened = h.opened ∙ u.line.opened;
+    asked = h.asked ∙ u.line.asked;
     grew = λ k p. subst (λ (c : Connection). Grew (here old) c u.heard u.said u.turns) (sym (h.connections (last old))) (u.line.grew k p);
     others = λ k ne. h.connections k ∙ u.line.others k ne;
     gate = h.gate ∙ u.line.gate;

@@ -44,7 +44,7 @@ grew_says c d e took gave piece turns g r h s q t = record {
 }
 
 pub talked_nothing : (a : Line) → Talked a a [] [] []
-talked_nothing a = record { tells = refl; count = refl; lent = refl; opened = refl; grew = λ _ _. grew_nothing (here a); others = λ _ _. refl; gate = refl }
+talked_nothing a = record { tells = refl; count = refl; lent = refl; opened = refl; asked = refl; grew = λ _ _. grew_nothing (here a); others = λ _ _. refl; gate = refl }
 
 pub back : {a b : Bool} → b ≡ a → IsTrue b → IsTrue a
 back e o = subst IsTrue e o
@@ -62,6 +62,7 @@ talked_on a b c took gave turns took2 gave2 turns2 t o u g f = record {
   count = u.keeps.count ∙ t.count;
   lent = u.keeps.lent ∙ t.lent;
   opened = u.opened ∙ t.opened;
+  asked = u.asked ∙ t.asked;
   grew = λ k p. subst (λ (m : ℕ). Grew (here a) (c.connection (m - 1)) took2 gave2 turns2) t.opened
       (f (still t.tells k) (still o p) (subst (λ (m : ℕ). Grew (here a) (b.connection (m - 1)) took gave turns) (sym t.opened) (t.grew k p)));
   others = others_then a b c t.opened o t.others u;

@@ -18,41 +18,41 @@ use Rattle.station.specs.Rows.{Acts, Came, Objects, Outside, Runs}
 use Rattle.station.specs.Serving.{Around, HasServed}
 use Rattle.station.specs.StationRows.{StationRow, with_shelf}
 
-count-served : (settings : Parts) (spare : ℕ) (old new : Around) (name : List ℕ) (most : ℕ) (status : Status) → HasServed settings spare old new name most status → new.wire.count ≡ old.wire.count
-count-served settings spare old new name most Done h = h.wire.count
-count-served settings spare old new name most WireFault h = h.wire.count
-count-served settings spare old new name most FileFault (inl h) = ap (λ wire. wire.count) h.wire
-count-served settings spare old new name most FileFault (inr h) = h.wire.count
-count-served settings spare old new name most OutFault h = h.wire.count
-count-served settings spare old new name most other h = elim h [ ]
+count-served : (settings : Parts) (spare : ℕ) (old new : Around) (address name : List ℕ) (most : ℕ) (status : Status) → HasServed settings spare old new address name most status → new.wire.count ≡ old.wire.count
+count-served settings spare old new address name most Done h = h.wire.count
+count-served settings spare old new address name most WireFault h = h.wire.count
+count-served settings spare old new address name most FileFault (inl h) = ap (λ wire. wire.count) h.wire
+count-served settings spare old new address name most FileFault (inr h) = h.wire.count
+count-served settings spare old new address name most OutFault h = h.wire.count
+count-served settings spare old new address name most other h = elim h [ ]
 
-count-station : (settings air : List ℕ) (count : ℕ) (old new : Around) (outcome : Outcome) → StationRow settings air count old new outcome → new.wire.count ≡ old.wire.count
-count-station settings air count old new (Refused fault) h = ap (λ wire. wire.count) h.1.wire
-count-station settings air count old new (Misread fault) h = elim h [ ]
-count-station settings air count old new (Ended Memory) h = ap (λ wire. wire.count) h.1.wire
-count-station settings air count old new (Ended FileFault) (inl h) = ap (λ wire. wire.count) h.1.wire
-count-station settings air count old new (Ended FileFault) (inr h) = count-served h.parts h.parts.cells (with_shelf old h.shelf) new air count FileFault h.served
-count-station settings air count old new (Ended status) h = count-served h.parts h.parts.cells (with_shelf old h.shelf) new air count status h.served
+count-station : (address settings air : List ℕ) (count : ℕ) (old new : Around) (outcome : Outcome) → StationRow address settings air count old new outcome → new.wire.count ≡ old.wire.count
+count-station address settings air count old new (Refused fault) h = ap (λ wire. wire.count) h.1.wire
+count-station address settings air count old new (Misread fault) h = elim h [ ]
+count-station address settings air count old new (Ended Memory) h = ap (λ wire. wire.count) h.1.wire
+count-station address settings air count old new (Ended FileFault) (inl h) = ap (λ wire. wire.count) h.1.wire
+count-station address settings air count old new (Ended FileFault) (inr h) = count-served h.parts h.parts.cells (with_shelf old h.shelf) new address air count FileFault h.served
+count-station address settings air count old new (Ended status) h = count-served h.parts h.parts.cells (with_shelf old h.shelf) new address air count status h.served
 
-count-call : (told : Told) (old new : Line) (outcomes : List Sent) (ending : Ending) → CallsUp told old new outcomes ending → new.count ≡ old.count
-count-call told old new outcomes ending (inl h) = h.came.line.count ∙ h.opens.count
-count-call told old new outcomes ending (inr h) = h.failed.count
+count-call : (told : Told) (address : List ℕ) (old new : Line) (outcomes : List Sent) (ending : Ending) → CallsUp told address old new outcomes ending → new.count ≡ old.count
+count-call told address old new outcomes ending (inl h) = h.came.line.count ∙ h.opens.count
+count-call told address old new outcomes ending (inr h) = h.failed.count
 
-count-sends : (told : Told) (old new : Line) (out0 out1 : Written ℕ) (outcomes : List Sent) (status : Status) → SendsSo told old new out0 out1 outcomes status → new.count ≡ old.count
-count-sends told old new out0 out1 outcomes Done h = count-call told old new outcomes _ (inl h.0.called)
-count-sends told old new out0 out1 outcomes LogonRefused h = count-call told old new outcomes _ (inl h.0.called)
-count-sends told old new out0 out1 outcomes SomeUnsent h = count-call told old new outcomes _ (inl h.0.called)
-count-sends told old new out0 out1 outcomes WireFault h = count-call told old new outcomes h.0.0 h.0.1
-count-sends told old new out0 out1 outcomes OutFault h = count-call told old new outcomes h.0.0 h.0.1
-count-sends told old new out0 out1 outcomes other h = elim h [ ]
+count-sends : (told : Told) (address : List ℕ) (old new : Line) (out0 out1 : Written ℕ) (outcomes : List Sent) (status : Status) → SendsSo told address old new out0 out1 outcomes status → new.count ≡ old.count
+count-sends told address old new out0 out1 outcomes Done h = count-call told address old new outcomes _ (inl h.0.called)
+count-sends told address old new out0 out1 outcomes LogonRefused h = count-call told address old new outcomes _ (inl h.0.called)
+count-sends told address old new out0 out1 outcomes SomeUnsent h = count-call told address old new outcomes _ (inl h.0.called)
+count-sends told address old new out0 out1 outcomes WireFault h = count-call told address old new outcomes h.0.0 h.0.1
+count-sends told address old new out0 out1 outcomes OutFault h = count-call told address old new outcomes h.0.0 h.0.1
+count-sends told address old new out0 out1 outcomes other h = elim h [ ]
 
-count-send : (name : List ℕ) (old new : Around) (outcome : Outcome) → SendRow name old new outcome → new.wire.count ≡ old.wire.count
-count-send name old new (Refused fault) h = elim h [ ]
-count-send name old new (Misread Pages.Memory) h = elim h [ ]
-count-send name old new (Misread fault) h = ap (λ wire. wire.count) h.1.wire
-count-send name old new (Ended Memory) h = ap (λ wire. wire.count) h.1.wire
-count-send name old new (Ended FileFault) h = ap (λ wire. wire.count) h.1.wire
-count-send name old new (Ended status) h = count-sends h.told old.wire new.wire old.out new.out h.sends.outcomes status h.sends.sends
+count-send : (address name : List ℕ) (old new : Around) (outcome : Outcome) → SendRow address name old new outcome → new.wire.count ≡ old.wire.count
+count-send address name old new (Refused fault) h = elim h [ ]
+count-send address name old new (Misread Pages.Memory) h = elim h [ ]
+count-send address name old new (Misread fault) h = ap (λ wire. wire.count) h.1.wire
+count-send address name old new (Ended Memory) h = ap (λ wire. wire.count) h.1.wire
+count-send address name old new (Ended FileFault) h = ap (λ wire. wire.count) h.1.wire
+count-send address name old new (Ended status) h = count-sends h.told address old.wire new.wire old.out new.out h.sends.outcomes status h.sends.sends
 
 came : (row : Status → Type 0) (outcome : Outcome) (x y : ℕ) → ((status : Status) → row status → x ≡ y) → Came row outcome → x ≡ y
 came row (Ended status) x y f h = f status h
@@ -64,9 +64,9 @@ count-acts None old new outcome h = ap (λ objects. objects.wire.count) h.1
 count-acts (Some (One capcode)) old new outcome h = came _ outcome new.wire.count old.wire.count (λ status r. ap (λ wire. wire.count) r.wire) h
 count-acts (Some (Play air capcodes)) old new outcome h = came _ outcome new.wire.count old.wire.count (λ status r. ap (λ wire. wire.count) r.wire) h
 count-acts (Some (Show air)) old new outcome h = came _ outcome new.wire.count old.wire.count (λ status r. ap (λ wire. wire.count) r.wire) h
-count-acts (Some (Station address settings air count)) old new outcome h = count-station settings air count _ _ outcome h.row
+count-acts (Some (Station address settings air count)) old new outcome h = count-station address settings air count _ _ outcome h.row
 count-acts (Some (Trial settings noise capcodes)) old new outcome h = ap (λ wire. wire.count) h.wire
-count-acts (Some (Send address pages)) old new outcome h = count-send pages _ _ outcome h.row
+count-acts (Some (Send address pages)) old new outcome h = count-send address pages _ _ outcome h.row
 
 pub count-runs : (words : List (List ℕ)) (old new : Outside) (result : Status) → Runs words old new result → new.objects.wire.count ≡ old.objects.wire.count
 count-runs words old new result h = count-acts h.command old.objects new.objects h.outcome h.acts

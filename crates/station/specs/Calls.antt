@@ -17,24 +17,26 @@ use Rattle.station.specs.OutcomeLines.{all_sent, outcome_lines}
 use Rattle.station.specs.Progress.{IsLogon, logon_of}
 use Rattle.station.specs.Talk.{here}
 
--- The next connection was opened, which is blank.
-pub record IsDialled (old new : Line) : Type 0 where
+-- The next connection was opened, to this address. It is blank.
+pub record IsDialled (address : List ℕ) (old new : Line) : Type 0 where
   pub tells : new.tells ≡ old.tells
   pub count : new.count ≡ old.count
   pub lent : new.lent ≡ old.lent
   pub connections : KeepsConnections old new
+  pub asked : IsTrue old.tells → new.asked ≡ address
   pub opened : IsTrue old.tells → (old.opened < old.count) × (new.opened ≡ old.opened + 1) × IsTrue new.is_open
   pub blank : IsTrue old.tells → IsBlank (here new)
   pub gate : new.gate ≡ old.gate
   pub others : KeepsLineAndHang old new
   pub steady : IsTrue old.tells → IsTrue old.steady → old.opened < old.count → IsTrue new.steady
 
--- Dialling failed, and no connection is open. Over a steady wire with a connection left it doesn't fail.
-pub record IsUndialled (old new : Line) : Type 0 where
+-- Dialling this address failed, and no connection is open. Over a steady wire with a connection left it doesn't fail.
+pub record IsUndialled (address : List ℕ) (old new : Line) : Type 0 where
   pub tells : new.tells ≡ old.tells
   pub count : new.count ≡ old.count
   pub lent : new.lent ≡ old.lent
   pub connections : KeepsConnections old new
+  pub asked : IsTrue old.tells → new.asked ≡ address
   pub opened : IsTrue old.tells → (new.opened ≡ old.opened) × IsFalse new.is_open
   pub gate : Rose old.gate new.gate
   pub others : KeepsLineAndHang old new
@@ -44,26 +46,27 @@ pub record IsUndialled (old new : Line) : Type 0 where
 abbrev pub HungUp : Line → Line → Ending → Ending → Type 0
 HungUp old new spoke ending = ((ending ≡ spoke) × (new.hang ≡ old.hang)) ⊎ ((ending ≡ Lost (logon_of spoke)) × Rose old.hang new.hang)
 
--- A connection was dialled, a call was made over it, and it was hung up. The ending tells whether Go was heard.
-pub record HasCalled (told : Told) (old new : Line) (outcomes : List Outcome) (ending : Ending) : Type 0 where
+-- A connection was dialled to this address, a call was made over it, and it was hung up. The ending tells whether Go was heard.
+pub record HasCalled (told : Told) (address : List ℕ) (old new : Line) (outcomes : List Outcome) (ending : Ending) : Type 0 where
   pub dialled : Line
   pub spoke : Ending
-  pub opens : IsDialled old dialled
+  pub opens : IsDialled address old dialled
+  pub asked : IsTrue old.tells → new.asked ≡ address
   pub came : Came told dialled new outcomes spoke
   pub logon : IsLogon (logon_of ending) came.marks
   pub shut : IsTrue old.tells → IsFalse new.is_open
   pub hung : HungUp old new spoke ending
   pub well : IsTrue old.tells → IsTrue old.steady → old.opened < old.count → HasRoom told (old.connection old.opened) → new.hang ≡ old.hang
 
--- No connection was dialled, and every page is NoLogon.
-pub record HasNotCalled (told : Told) (old new : Line) (outcomes : List Outcome) (ending : Ending) : Type 0 where
-  pub failed : IsUndialled old new
+-- No connection was dialled to this address, and every page is NoLogon.
+pub record HasNotCalled (told : Told) (address : List ℕ) (old new : Line) (outcomes : List Outcome) (ending : Ending) : Type 0 where
+  pub failed : IsUndialled address old new
   pub outcomes_are : outcomes ≡ all_are NoLogon told.pages
   pub ending_is : ending ≡ Lost Pending
 
 -- a call was made, or dialling failed
-abbrev pub CallsUp : Told → Line → Line → List Outcome → Ending → Type 0
-CallsUp told old new outcomes ending = HasCalled told old new outcomes ending ⊎ HasNotCalled told old new outcomes ending
+abbrev pub CallsUp : Told → List ℕ → Line → Line → List Outcome → Ending → Type 0
+CallsUp told address old new outcomes ending = HasCalled told address old new outcomes ending ⊎ HasNotCalled told address old new outcomes ending
 
 -- the status for how a call ended, and for whether every page is Sent
 abbrev pub status_of : Ending → Bool → Status
@@ -98,23 +101,23 @@ pub record PutFront (old new : Written ℕ) (outcomes : List Outcome) : Type 0 w
   pub unsteady : IsTrue old.tells → IsTrue old.steady → length (outcome_lines outcomes) ≤ old.room → ⊥
 
 -- The call was made and no count of the wire's faults rose. Its logon, and whether every page is Sent, are these.
-pub record WentWell (told : Told) (old new : Line) (outcomes : List Outcome) (ending : Ending) : Type 0 where
-  pub called : HasCalled told old new outcomes ending
+pub record WentWell (told : Told) (address : List ℕ) (old new : Line) (outcomes : List Outcome) (ending : Ending) : Type 0 where
+  pub called : HasCalled told address old new outcomes ending
   pub none_rose : NoneRose old new
 
 -- What each status of sending pages says of the outcomes, the wire and the output.
-abbrev pub SendsSo : Told → Line → Line → Written ℕ → Written ℕ → List Outcome → Status → Type 0
-SendsSo told old new out0 out1 outcomes Done = WentWell told old new outcomes (Over Granted) × IsTrue (all_sent outcomes) × PutLines out0 out1 outcomes
-SendsSo told old new out0 out1 outcomes LogonRefused = WentWell told old new outcomes (Over Pending) × PutLines out0 out1 outcomes
-SendsSo told old new out0 out1 outcomes SomeUnsent = WentWell told old new outcomes (Over Granted) × IsFalse (all_sent outcomes) × PutLines out0 out1 outcomes
-SendsSo told old new out0 out1 outcomes WireFault = ((ending : Ending) × CallsUp told old new outcomes ending) × SomeRose old new × PutLines out0 out1 outcomes
-SendsSo told old new out0 out1 outcomes OutFault = ((ending : Ending) × CallsUp told old new outcomes ending) × PutFront out0 out1 outcomes
-SendsSo told old new out0 out1 outcomes other = ⊥
+abbrev pub SendsSo : Told → List ℕ → Line → Line → Written ℕ → Written ℕ → List Outcome → Status → Type 0
+SendsSo told address old new out0 out1 outcomes Done = WentWell told address old new outcomes (Over Granted) × IsTrue (all_sent outcomes) × PutLines out0 out1 outcomes
+SendsSo told address old new out0 out1 outcomes LogonRefused = WentWell told address old new outcomes (Over Pending) × PutLines out0 out1 outcomes
+SendsSo told address old new out0 out1 outcomes SomeUnsent = WentWell told address old new outcomes (Over Granted) × IsFalse (all_sent outcomes) × PutLines out0 out1 outcomes
+SendsSo told address old new out0 out1 outcomes WireFault = ((ending : Ending) × CallsUp told address old new outcomes ending) × SomeRose old new × PutLines out0 out1 outcomes
+SendsSo told address old new out0 out1 outcomes OutFault = ((ending : Ending) × CallsUp told address old new outcomes ending) × PutFront out0 out1 outcomes
+SendsSo told address old new out0 out1 outcomes other = ⊥
 
--- Pages were sent: these became their outcomes. Over a steady wire with a connection left that has room for what is due, and a steady
+-- Pages were sent to this address: these became their outcomes. Over a steady wire with a connection left that has room for what is due, and a steady
 -- output with room for the lines, no count of faults rose.
-pub record HasSent (told : Told) (old new : Line) (out0 out1 : Written ℕ) (status : Status) : Type 0 where
+pub record HasSent (told : Told) (address : List ℕ) (old new : Line) (out0 out1 : Written ℕ) (status : Status) : Type 0 where
   pub outcomes : List Outcome
-  pub sends : SendsSo told old new out0 out1 outcomes status
+  pub sends : SendsSo told address old new out0 out1 outcomes status
   pub wire_well : IsTrue old.tells → IsTrue old.steady → old.opened < old.count → HasRoom told (old.connection old.opened) → NoneRose old new
   pub out_well : IsTrue out0.tells → IsTrue out0.steady → 20 * length told.pages ≤ out0.room → out1.faults ≡ out0.faults

@@ -60,21 +60,21 @@ abbrev pub ServedSend : {settings : Parts} {spare : ℕ} → Around → List (Se
 ServedSend old sessions = IsTrue old.shelf.tells → SendsAccepted (accepted_in sessions) (airs sessions)
 
 -- where an append failed, this holds of the sessions before the last one
-abbrev pub FaultPromise : (settings : Parts) (spare : ℕ) (first old new : Around) (name : List ℕ) (most : ℕ)
-    → AtFreshFault settings spare old new name most ⊎ AtAppendFault settings spare old new name most → Type 0
-FaultPromise settings spare first old new name most (inl fresh) = Unit {0}
-FaultPromise settings spare first old new name most (inr fault) = ServedSend first fault.sessions
+abbrev pub FaultPromise : (settings : Parts) (spare : ℕ) (first old new : Around) (address name : List ℕ) (most : ℕ)
+    → AtFreshFault settings spare old new name most ⊎ AtAppendFault settings spare old new address name most → Type 0
+FaultPromise settings spare first old new address name most (inl fresh) = Unit {0}
+FaultPromise settings spare first old new address name most (inr fault) = ServedSend first fault.sessions
 
 -- where a file failed: the settings file wasn't read, or the air failed
-abbrev pub FilePromise : (settings air : List ℕ) (count : ℕ) (old new : Around)
-    → (Unreadable settings old.shelf new.shelf × KeepsAround old new) ⊎ ServedBy settings air count old new FileFault → Type 0
-FilePromise settings air count old new (inl unread) = Unit {0}
-FilePromise settings air count old new (inr by) = FaultPromise by.parts by.parts.cells old (with_shelf old by.shelf) new air count by.served
+abbrev pub FilePromise : (address settings air : List ℕ) (count : ℕ) (old new : Around)
+    → (Unreadable settings old.shelf new.shelf × KeepsAround old new) ⊎ ServedBy address settings air count old new FileFault → Type 0
+FilePromise address settings air count old new (inl unread) = Unit {0}
+FilePromise address settings air count old new (inr by) = FaultPromise by.parts by.parts.cells old (with_shelf old by.shelf) new address air count by.served
 
 -- what serving connections promises of the sessions whose transmissions were appended
-abbrev pub StationPromise : (settings air : List ℕ) (count : ℕ) (old new : Around) (outcome : Outcome) → StationRow settings air count old new outcome → Type 0
-StationPromise settings air count old new (Ended Done) row = ServedSend old row.served.sessions
-StationPromise settings air count old new (Ended WireFault) row = ServedSend old row.served.sessions
-StationPromise settings air count old new (Ended OutFault) row = ServedSend old (row.served.sessions ++ row.served.unreported ∷ [])
-StationPromise settings air count old new (Ended FileFault) row = FilePromise settings air count old new row
-StationPromise settings air count old new outcome row = Unit {0}
+abbrev pub StationPromise : (address settings air : List ℕ) (count : ℕ) (old new : Around) (outcome : Outcome) → StationRow address settings air count old new outcome → Type 0
+StationPromise address settings air count old new (Ended Done) row = ServedSend old row.served.sessions
+StationPromise address settings air count old new (Ended WireFault) row = ServedSend old row.served.sessions
+StationPromise address settings air count old new (Ended OutFault) row = ServedSend old (row.served.sessions ++ row.served.unreported ∷ [])
+StationPromise address settings air count old new (Ended FileFault) row = FilePromise address settings air count old new row
+StationPromise address settings air count old new outcome row = Unit {0}

@@ -120,10 +120,10 @@ pub record RunsShow (air : List ℕ) (old new : Objects) (status : Status) : Typ
   pub wire : new.wire ≡ old.wire
   pub input : new.streams.input ≡ old.streams.input
 
--- `station`: the settings file was read, and connections were served by its settings; wire, shelf and output are told by `Around`. Where
+-- `station`: the settings file was read, and connections at the address were served by its settings; wire, shelf and output are told by `Around`. Where
 -- reading the file failed, where it is refused, and where there was no memory, nothing else was touched. The input is as before.
-pub record RunsStation (settings air : List ℕ) (count : ℕ) (old new : Objects) (outcome : Outcome) : Type 0 where
-  pub row : StationRow settings air count (around old) (around new) outcome
+pub record RunsStation (address settings air : List ℕ) (count : ℕ) (old new : Objects) (outcome : Outcome) : Type 0 where
+  pub row : StationRow address settings air count (around old) (around new) outcome
   pub input : new.streams.input ≡ old.streams.input
 
 -- `trial`: the settings file was read, and the session of the input tried by its settings. Where reading the file failed, where it is
@@ -132,10 +132,10 @@ pub record RunsTrial (settings noise capcodes : List ℕ) (old new : Objects) (o
   pub row : TrialRow settings noise capcodes old.streams.input new.streams.input old.shelf new.shelf old.streams.out new.streams.out outcome
   pub wire : new.wire ≡ old.wire
 
--- `send`: the pages file was read, and a client sent its pages. Where reading the file failed, where it is refused, and where there was
+-- `send`: the pages file was read, and a client sent its pages to the address. Where reading the file failed, where it is refused, and where there was
 -- no memory, nothing else was touched. The input is as before.
-pub record RunsSend (pages : List ℕ) (old new : Objects) (outcome : Outcome) : Type 0 where
-  pub row : SendRow pages (around old) (around new) outcome
+pub record RunsSend (address pages : List ℕ) (old new : Objects) (outcome : Outcome) : Type 0 where
+  pub row : SendRow address pages (around old) (around new) outcome
   pub input : new.streams.input ≡ old.streams.input
 
 -- an outcome that is a status
@@ -150,9 +150,9 @@ Acts None old new outcome = (outcome ≡ Ended Usage) × (new ≡ old)
 Acts (Some (One capcode)) old new outcome = Came (RunsOne capcode old new) outcome
 Acts (Some (Play air capcodes)) old new outcome = Came (RunsPlay capcodes air old new) outcome
 Acts (Some (Show air)) old new outcome = Came (RunsShow air old new) outcome
-Acts (Some (Station address settings air count)) old new outcome = RunsStation settings air count old new outcome
+Acts (Some (Station address settings air count)) old new outcome = RunsStation address settings air count old new outcome
 Acts (Some (Trial settings noise capcodes)) old new outcome = RunsTrial settings noise capcodes old new outcome
-Acts (Some (Send address pages)) old new outcome = RunsSend pages old new outcome
+Acts (Some (Send address pages)) old new outcome = RunsSend address pages old new outcome
 
 -- What a command promises of the pages that receivers hear: `play` of the bits of its file, `trial` of the session that it tried, and
 -- `station` of the transmissions that it sent.
@@ -162,7 +162,7 @@ Promises (Some (One capcode)) old new outcome acts = Unit {0}
 Promises (Some (Play air capcodes)) old new outcome acts = HearNear capcodes (bytes_bits (old.shelf.file air))
 Promises (Some (Show air)) old new outcome acts = Unit {0}
 Promises (Some (Send address pages)) old new outcome acts = Unit {0}
-Promises (Some (Station address settings air count)) old new outcome acts = StationPromise settings air count (around old) (around new) outcome acts.row
+Promises (Some (Station address settings air count)) old new outcome acts = StationPromise address settings air count (around old) (around new) outcome acts.row
 Promises (Some (Trial settings noise capcodes)) old new outcome acts =
     TrialPromise settings noise capcodes old.streams.input new.streams.input old.shelf new.shelf old.streams.out new.streams.out outcome acts.row
 

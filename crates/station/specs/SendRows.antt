@@ -25,20 +25,20 @@ pub record RefusedPages (name : List ℕ) (old new : Files) (fault : PagesFault)
   pub there : IsTrue old.tells → IsTrue (old.there name)
   pub refused : IsTrue old.tells → IsRefused (old.file name) fault
 
--- The pages were read, and a client sent them. No file changed.
-pub record SentBy (name : List ℕ) (old new : Around) (status : Status) : Type 0 where
+-- The pages were read, and a client sent them to the address. No file changed.
+pub record SentBy (address name : List ℕ) (old new : Around) (status : Status) : Type 0 where
   pub told : Told
   pub read : ReadPages name old.shelf new.shelf told
-  pub sends : HasSent told old.wire new.wire old.out new.out status
+  pub sends : HasSent told address old.wire new.wire old.out new.out status
 
 -- `send`, by what it came to
-abbrev pub SendRow : List ℕ → Around → Around → Outcome → Type 0
-SendRow name old new (Refused fault) = ⊥
-SendRow name old new (Misread Pages.Memory) = ⊥
-SendRow name old new (Misread fault) = RefusedPages name old.shelf new.shelf fault × KeepsAround old new
-SendRow name old new (Ended Memory) = Unharmed name old.shelf new.shelf × KeepsAround old new
-SendRow name old new (Ended FileFault) = Unreadable name old.shelf new.shelf × KeepsAround old new
-SendRow name old new (Ended status) = SentBy name old new status
+abbrev pub SendRow : List ℕ → List ℕ → Around → Around → Outcome → Type 0
+SendRow address name old new (Refused fault) = ⊥
+SendRow address name old new (Misread Pages.Memory) = ⊥
+SendRow address name old new (Misread fault) = RefusedPages name old.shelf new.shelf fault × KeepsAround old new
+SendRow address name old new (Ended Memory) = Unharmed name old.shelf new.shelf × KeepsAround old new
+SendRow address name old new (Ended FileFault) = Unreadable name old.shelf new.shelf × KeepsAround old new
+SendRow address name old new (Ended status) = SentBy address name old new status
 
 -- what a command comes to whose pages file is refused, by the fault of the file
 abbrev pub ComesWithout : PagesFault → Outcome → Type 0

@@ -19,13 +19,14 @@ pub record Around : Type 0 where
   pub shelf : Files
   pub out : Written ℕ
 
--- Done: so many connections were served, or all that were left. Their airs are the file, and their lines were put. No count of faults
+-- Done: so many connections were served at this address, or all that were left. Their airs are the file, and their lines were put. No count of faults
 -- rose but the wire's for hear, say and hang-up, and over a fit wire none of these.
-pub record AtDone (settings : Parts) (spare : ℕ) (old new : Around) (name : List ℕ) (most : ℕ) : Type 0 where
+pub record AtDone (settings : Parts) (spare : ℕ) (old new : Around) (address name : List ℕ) (most : ℕ) : Type 0 where
   pub sessions : List (Served settings spare)
   pub few : length sessions ≤ most
   pub all : (length sessions ≡ most) ⊎ (IsTrue old.wire.tells → new.wire.count ≤ new.wire.opened)
   pub wire : WireAfter old.wire new.wire sessions
+  pub asked : IsTrue old.wire.tells → new.wire.asked ≡ address
   pub well : FitWire settings spare old.wire → WellServed old.wire new.wire sessions
   pub file : FileAfter old.shelf new.shelf name (airs sessions)
   pub out : OutAfter old.out new.out (lines 1 sessions)
@@ -34,10 +35,11 @@ pub record AtDone (settings : Parts) (spare : ℕ) (old new : Around) (name : Li
   pub out_faults : new.out.faults ≡ old.out.faults
 
 -- WireFault: `listen` or `next` failed, which no fit wire does. The airs and lines of the sessions that were served stand.
-pub record AtWireFault (settings : Parts) (spare : ℕ) (old new : Around) (name : List ℕ) (most : ℕ) : Type 0 where
+pub record AtWireFault (settings : Parts) (spare : ℕ) (old new : Around) (address name : List ℕ) (most : ℕ) : Type 0 where
   pub sessions : List (Served settings spare)
   pub few : length sessions ≤ most
   pub wire : WireAfter old.wire new.wire sessions
+  pub asked : IsTrue old.wire.tells → new.wire.asked ≡ address
   pub unfit : FitWire settings spare old.wire → ⊥
   pub file : FileAfter old.shelf new.shelf name (airs sessions)
   pub out : OutAfter old.out new.out (lines 1 sessions)
@@ -47,12 +49,13 @@ pub record AtWireFault (settings : Parts) (spare : ℕ) (old new : Around) (name
 
 -- FileFault of an append, which no fit shelf has: the airs of the finished sessions and a front of this session's air are the file.
 -- The lines of the finished sessions were put, and this one's wasn't.
-pub record AtAppendFault (settings : Parts) (spare : ℕ) (old new : Around) (name : List ℕ) (most : ℕ) : Type 0 where
+pub record AtAppendFault (settings : Parts) (spare : ℕ) (old new : Around) (address name : List ℕ) (most : ℕ) : Type 0 where
   pub sessions : List (Served settings spare)
   pub unsent : Served settings spare
   pub front : List Bool
   pub few : length (sessions ++ unsent ∷ []) ≤ most
   pub wire : WireAfter old.wire new.wire (sessions ++ unsent ∷ [])
+  pub asked : IsTrue old.wire.tells → new.wire.asked ≡ address
   pub well : FitWire settings spare old.wire → WellServed old.wire new.wire (sessions ++ unsent ∷ [])
   pub front_is : IsFront front unsent.bits
   pub file : FileAfter old.shelf new.shelf name (airs sessions ++ front)
@@ -74,12 +77,13 @@ pub record AtFreshFault (settings : Parts) (spare : ℕ) (old new : Around) (nam
   pub shelf_faults : Rose old.shelf.faults new.shelf.faults
 
 -- OutFault, which no fit output has: the airs of all sessions are the file, this one's included. Of its line a front was put.
-pub record AtOutFault (settings : Parts) (spare : ℕ) (old new : Around) (name : List ℕ) (most : ℕ) : Type 0 where
+pub record AtOutFault (settings : Parts) (spare : ℕ) (old new : Around) (address name : List ℕ) (most : ℕ) : Type 0 where
   pub sessions : List (Served settings spare)
   pub unreported : Served settings spare
   pub front : List ℕ
   pub few : length (sessions ++ unreported ∷ []) ≤ most
   pub wire : WireAfter old.wire new.wire (sessions ++ unreported ∷ [])
+  pub asked : IsTrue old.wire.tells → new.wire.asked ≡ address
   pub well : FitWire settings spare old.wire → WellServed old.wire new.wire (sessions ++ unreported ∷ [])
   pub file : FileAfter old.shelf new.shelf name (airs (sessions ++ unreported ∷ []))
   pub front_is : IsFront front (line_for (length sessions + 1) unreported)
@@ -89,17 +93,18 @@ pub record AtOutFault (settings : Parts) (spare : ℕ) (old new : Around) (name 
   pub shelf_faults : new.shelf.faults ≡ old.shelf.faults
   pub out_faults : Rose old.out.faults new.out.faults
 
--- How serving at most so many connections ended, by its status. No other status is answered.
-abbrev pub HasServed : Parts → ℕ → Around → Around → List ℕ → ℕ → Status → Type 0
-HasServed settings spare old new name most Done = AtDone settings spare old new name most
-HasServed settings spare old new name most WireFault = AtWireFault settings spare old new name most
-HasServed settings spare old new name most FileFault = AtFreshFault settings spare old new name most ⊎ AtAppendFault settings spare old new name most
-HasServed settings spare old new name most OutFault = AtOutFault settings spare old new name most
-HasServed settings spare old new name most other = ⊥
+-- How serving at most so many connections at an address ended, by its status. No other status is answered.
+abbrev pub HasServed : Parts → ℕ → Around → Around → List ℕ → List ℕ → ℕ → Status → Type 0
+HasServed settings spare old new address name most Done = AtDone settings spare old new address name most
+HasServed settings spare old new address name most WireFault = AtWireFault settings spare old new address name most
+HasServed settings spare old new address name most FileFault = AtFreshFault settings spare old new name most ⊎ AtAppendFault settings spare old new address name most
+HasServed settings spare old new address name most OutFault = AtOutFault settings spare old new address name most
+HasServed settings spare old new address name most other = ⊥
 
--- The sessions so far are served, sent and reported, and no page is live.
-pub record SoFar {settings : Parts} {spare : ℕ} (old now : Around) (name : List ℕ) (most : ℕ) (pool : Pool) (sessions : List (Served settings spare)) : Type 0 where
+-- The sessions so far are served at this address, sent and reported, and no page is live.
+pub record SoFar {settings : Parts} {spare : ℕ} (old now : Around) (address name : List ℕ) (most : ℕ) (pool : Pool) (sessions : List (Served settings spare)) : Type 0 where
   pub wire : WireAfter old.wire now.wire sessions
+  pub asked : IsTrue old.wire.tells → now.wire.asked ≡ address
   pub well : FitWire settings spare old.wire → WellServed old.wire now.wire sessions
   pub file : FileAfter old.shelf now.shelf name (airs sessions)
   pub file_well : FitShelf settings spare old.wire old.shelf name most → IsTrue now.shelf.steady
@@ -113,9 +118,9 @@ pub record SoFar {settings : Parts} {spare : ℕ} (old now : Around) (name : Lis
   pub all_spare : pool.spare ≡ spare
 
 -- One session more is served, or the serving ended.
-abbrev pub Further : Parts → ℕ → Around → Around → List ℕ → ℕ → Pool → ℕ → Option Status → Type 0
-Further settings spare old now name most pool number None = (sessions : List (Served settings spare)) × SoFar old now name most pool sessions × (length sessions ≡ number)
-Further settings spare old now name most pool number (Some status) = HasServed settings spare old now name most status
+abbrev pub Further : Parts → ℕ → Around → Around → List ℕ → List ℕ → ℕ → Pool → ℕ → Option Status → Type 0
+Further settings spare old now address name most pool number None = (sessions : List (Served settings spare)) × SoFar old now address name most pool sessions × (length sessions ≡ number)
+Further settings spare old now address name most pool number (Some status) = HasServed settings spare old now address name most status
 
 -- No page waits in the pool, but where a file failed.
 abbrev pub IsIdle : Pool → Status → Type 0

@@ -20,12 +20,12 @@ use Rattle.station.specs.Trying.{Tries}
 abbrev pub with_shelf : Around → Files → Around
 with_shelf around shelf = record { wire = around.wire; shelf = shelf; out = around.out }
 
--- The settings were read, and connections were served by them, with as many spare cells as they say.
-pub record ServedBy (settings air : List ℕ) (count : ℕ) (old new : Around) (status : Status) : Type 0 where
+-- The settings were read, and connections at the address were served by them, with as many spare cells as they say.
+pub record ServedBy (address settings air : List ℕ) (count : ℕ) (old new : Around) (status : Status) : Type 0 where
   pub parts : Parts
   pub shelf : Files
   pub read : ReadSettings settings old.shelf shelf parts
-  pub served : HasServed parts parts.cells (with_shelf old shelf) new air count status
+  pub served : HasServed parts parts.cells (with_shelf old shelf) new address air count status
 
 -- Wire and output are as they were.
 pub record KeepsAround (old new : Around) : Type 0 where
@@ -33,13 +33,13 @@ pub record KeepsAround (old new : Around) : Type 0 where
   pub out : new.out ≡ old.out
 
 -- `station`, by what it came to
-abbrev pub StationRow : List ℕ → List ℕ → ℕ → Around → Around → Outcome → Type 0
-StationRow settings air count old new (Refused fault) = RefusedSettings settings old.shelf new.shelf fault × KeepsAround old new
-StationRow settings air count old new (Misread fault) = ⊥
-StationRow settings air count old new (Ended Memory) = Unharmed settings old.shelf new.shelf × KeepsAround old new
-StationRow settings air count old new (Ended FileFault) =
-    (Unreadable settings old.shelf new.shelf × KeepsAround old new) ⊎ ServedBy settings air count old new FileFault
-StationRow settings air count old new (Ended status) = ServedBy settings air count old new status
+abbrev pub StationRow : List ℕ → List ℕ → List ℕ → ℕ → Around → Around → Outcome → Type 0
+StationRow address settings air count old new (Refused fault) = RefusedSettings settings old.shelf new.shelf fault × KeepsAround old new
+StationRow address settings air count old new (Misread fault) = ⊥
+StationRow address settings air count old new (Ended Memory) = Unharmed settings old.shelf new.shelf × KeepsAround old new
+StationRow address settings air count old new (Ended FileFault) =
+    (Unreadable settings old.shelf new.shelf × KeepsAround old new) ⊎ ServedBy address settings air count old new FileFault
+StationRow address settings air count old new (Ended status) = ServedBy address settings air count old new status
 
 -- these are the bits of a file's bytes
 pub record AreFileBits (name : List ℕ) (shelf : Files) (bits : Left Bool) : Type 0 where

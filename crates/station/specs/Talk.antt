@@ -26,6 +26,7 @@ pub record Talked (old new : Line) (heard said : List ℕ) (turns : List (ℕ ×
   pub count : new.count ≡ old.count
   pub lent : new.lent ≡ old.lent
   pub opened : new.opened ≡ old.opened
+  pub asked : new.asked ≡ old.asked
   pub grew : IsTrue old.tells → IsTrue old.is_open → Grew (here old) (new.connection (last old)) heard said turns
   pub others : (k : ℕ) → (IsTrue old.is_open → k ≢ last old) → new.connection k ≡ old.connection k
   pub gate : new.gate ≡ old.gate

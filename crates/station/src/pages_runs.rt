@@ -22,7 +22,7 @@ pub(crate) fn run_send<W: Wire, F: Shelf, O: Sink>(
     shelf: &mut F,
     out: &mut O,
 ) -> Outcome
-    ensures { SendRow pages.now
+    ensures { SendRow address.now pages.now
         (record { wire = W.state wire.old; shelf = F.state shelf.old; out = O.state out.old })
         (record { wire = W.state wire.new; shelf = F.state shelf.new; out = O.state out.new }) result }
 {

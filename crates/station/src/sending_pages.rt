@@ -31,7 +31,7 @@ use wires::wire::Wire;
 /// exactly where it didn't fail, Go was heard and some page wasn't sent. WireFault comes only where the wire failed. The lines were put in
 /// each of these cases. OutFault comes only where `out` failed, and a front of the lines was put then.
 pub fn send<W: Wire, O: Sink>(wire: &mut W, address: &str, pages: &Pages, out: &mut O) -> Status
-    ensures { HasSent pages.now (W.state wire.old) (W.state wire.new) (O.state out.old) (O.state out.new) result }
+    ensures { HasSent pages.now address.now (W.state wire.old) (W.state wire.new) (O.state out.old) (O.state out.new) result }
 {
     let mut outcomes = ArrayVec::new();
     let ending = call(wire, address, pages, &mut outcomes);
@@ -60,7 +60,7 @@ fn status(ending: Ending, outcomes: &[Outcome]) -> Status
 
 /// Dials, talks and hangs up. The outcomes of all pages are appended to the list, which is empty at first.
 fn call<W: Wire>(wire: &mut W, address: &str, pages: &Pages, outcomes: &mut Outcomes) -> Ending
-    ensures calls { outcomes.old.items ≡ [] → CallsUp pages.now (W.state wire.old) (W.state wire.new) outcomes.new.items result }
+    ensures calls { outcomes.old.items ≡ [] → CallsUp pages.now address.now (W.state wire.old) (W.state wire.new) outcomes.new.items result }
     ensures few { length pages.now.pages ≤ most_pages }
 {
     if let Err(Failed) = wire.dial(address) {

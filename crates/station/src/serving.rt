@@ -47,7 +47,7 @@ impl Station {
         ensures cells_stay { cells self.new.pool ≡ cells self.old.pool }
         ensures served { HasServed self.old.settings (cells self.old.pool)
             (record { wire = W.state wire.old; shelf = F.state shelf.old; out = O.state out.old })
-            (record { wire = W.state wire.new; shelf = F.state shelf.new; out = O.state out.new }) air.now count result }
+            (record { wire = W.state wire.new; shelf = F.state shelf.new; out = O.state out.new }) address.now air.now count result }
         ensures idle { IsIdle self.new.pool result }
     {
         self.pool.clear();
@@ -76,11 +76,11 @@ impl Station {
     ) -> Option<Status>
         ensures settings { self.new.settings ≡ self.old.settings }
         ensures cells_stay { cells self.new.pool ≡ cells self.old.pool }
-        ensures further { (settings : Parts) (spare most : ℕ) (first : Around) (sessions : List (Served settings spare))
+        ensures further { (settings : Parts) (spare most : ℕ) (first : Around) (address : List ℕ) (sessions : List (Served settings spare))
             → self.old.settings ≡ settings
-            → SoFar first (record { wire = W.state wire.old; shelf = F.state shelf.old; out = O.state out.old }) air.now most self.old.pool sessions
+            → SoFar first (record { wire = W.state wire.old; shelf = F.state shelf.old; out = O.state out.old }) address air.now most self.old.pool sessions
             → length sessions + 1 ≡ number → number ≤ most
-            → Further settings spare first (record { wire = W.state wire.new; shelf = F.state shelf.new; out = O.state out.new }) air.now most self.new.pool number result }
+            → Further settings spare first (record { wire = W.state wire.new; shelf = F.state shelf.new; out = O.state out.new }) address air.now most self.new.pool number result }
         ensures idle { self.old.pool.live ≡ [] → MatchOption result (self.new.pool.live ≡ []) (λ status. IsIdle self.new.pool status) }
     {
         match wire.next() {

@@ -40,7 +40,7 @@ pub(crate) fn run_station<W: Wire, F: Shelf, O: Sink>(
     shelf: &mut F,
     out: &mut O,
 ) -> Outcome
-    ensures { StationRow line.now.settings.now line.now.air.now line.now.count
+    ensures { StationRow line.now.address.now line.now.settings.now line.now.air.now line.now.count
         (record { wire = W.state wire.old; shelf = F.state shelf.old; out = O.state out.old })
         (record { wire = W.state wire.new; shelf = F.state shelf.new; out = O.state out.new }) result }
 {

@@ -125,7 +125,7 @@ other_line-same old new piece r h =
     quiet_alike (old.is_open && nat_eq k (old.opened - 1)) (new.is_open && nat_eq k (new.opened - 1)) (test k) (old.connection k) (new.connection k)
     (λ t. let e = same_number k (old.opened - 1) (and_both old.is_open (nat_eq k (old.opened - 1)) t).1 in subst (λ (n : ℕ). quiet (new.connection n) ≡ quiet (old.connection n)) (sym e) one)
     (λ f. h.uses.others k (λ t e. let both = and_one old.is_open (nat_eq k (old.opened - 1)) t (number_same k (old.opened - 1) e) in cc))) in
-    λ i. record { count = h.uses.keeps.count i; connection = c i; opened = o i; is_open = p i; gate = h.gate i; hear = h.hear i; hang = h.hang i }
+    λ i. record { count = h.uses.keeps.count i; connection = c i; opened = o i; is_open = p i; asked = h.uses.asked i; gate = h.gate i; hear = h.hear i; hang = h.hang i }
 
 -- a `say` below is a write to the open connection
 pub saying_puts : {T E : Type 0} (name : GName) (old new : Line) (piece : List ℕ) (r : Result T E) → Says old new piece r → Puts (saying_over name old) (saying_over name new) piece r
@@ -175,6 +175,7 @@ saying_keeps m n old new h =
       heard = λ t. record { heard = ap (λ (x : Connection). x.heard) (q t); rest = ap (λ (x : Connection). x.rest) (q t); turns = ap (λ (x : Connection). x.turns) (q t) };
       opened = o;
       is_open = p;
+      asked = ap (λ (l : OtherLine). l.asked) w;
       gate = ap (λ (l : OtherLine). l.gate) w;
       hear = ap (λ (l : OtherLine). l.hear) w;
       hang = ap (λ (l : OtherLine). l.hang) w;

@@ -57,22 +57,24 @@ at_most false m n e h = absurd (h (grind (arith, nat_tests, e)))
 steady_fails : (old : WireInMemory) {A : Type 0} → IsTrue (wire_tells old).steady → IsTrue (Rattle.wires.specs.Calls.next_fails old.calls) → A
 steady_fails old s t = let no = steady_next old.calls s in cc
 
-pub listens_exactly : {T E : Type 0} (old new : WireInMemory) (r : Result T E) → ListensInMemory old new r → old.calls.made ≤ new.calls.made → old.faults.gate ≤ new.faults.gate
-    → AllBlankFrom old.opened old.connections → Listens (wire_tells old) (wire_tells new) r
-listens_exactly old new (Ok x) h made faults blank = record {
+pub listens_exactly : {T E : Type 0} (old new : WireInMemory) (at : List ℕ) (r : Result T E) → ListensInMemory old new at r → old.calls.made ≤ new.calls.made → old.faults.gate ≤ new.faults.gate
+    → AllBlankFrom old.opened old.connections → Listens (wire_tells old) (wire_tells new) at r
+listens_exactly old new at (Ok x) h made faults blank = record {
   keeps = record { tells = refl; count = ap length h.connections; lent = refl };
   blank = λ _. blank;
   connections = λ k. ap (λ (cs : List Connection). get_or cs k silent_connection) h.connections;
+  asked = λ _. h.asked;
   opened = h.opened;
   is_open = h.is_open;
   steady = λ _ s. (refl, steady_later old.calls new.calls h.counts.calls.failing made s);
   cause = kind_cause gate_fault (λ f. f.gate) old new (Ok x) h.counts (λ f. refl) faults;
   others = gate_others old new (Ok x) h.counts;
 }
-listens_exactly old new (Err e) h made faults blank = record {
+listens_exactly old new at (Err e) h made faults blank = record {
   keeps = record { tells = refl; count = ap length h.connections; lent = refl };
   blank = λ _. blank;
   connections = λ k. ap (λ (cs : List Connection). get_or cs k silent_connection) h.connections;
+  asked = λ _. h.asked;
   opened = h.opened;
   is_open = h.is_open;
   steady = λ _ s. steady_fails old s (h.fails.0 refl);
@@ -90,6 +92,7 @@ opens_exactly old new (Ok came) h made faults blank = record {
   keeps = record { tells = refl; count = ap length h.connections; lent = refl };
   blank = λ _. blank;
   connections = λ k. ap (λ (cs : List Connection). get_or cs k silent_connection) h.connections;
+  asked = h.asked;
   opened = λ _ t. (h.came.0 t, (h.opened t).0, (h.opened t).1);
   none = λ _. none_left came old.opened (length old.connections) h.came;
   not_opened = λ _. h.none;
@@ -102,6 +105,7 @@ opens_exactly old new (Err e) h made faults blank = record {
   keeps = record { tells = refl; count = ap length h.connections; lent = refl };
   blank = λ _. blank;
   connections = λ k. ap (λ (cs : List Connection). get_or cs k silent_connection) h.connections;
+  asked = h.asked;
   opened = λ _. tt;
   none = λ _. tt;
   not_opened = λ _. tt;
@@ -111,22 +115,24 @@ opens_exactly old new (Err e) h made faults blank = record {
   others = gate_others old new (Err e) h.counts;
 }
 
-pub dials_exactly : {T E : Type 0} (old new : WireInMemory) (r : Result T E) → DialsInMemory old new r → old.calls.made ≤ new.calls.made → old.faults.gate ≤ new.faults.gate
-    → AllBlankFrom old.opened old.connections → Dials (wire_tells old) (wire_tells new) r
-dials_exactly old new (Ok x) h made faults blank = record {
+pub dials_exactly : {T E : Type 0} (old new : WireInMemory) (at : List ℕ) (r : Result T E) → DialsInMemory old new at r → old.calls.made ≤ new.calls.made → old.faults.gate ≤ new.faults.gate
+    → AllBlankFrom old.opened old.connections → Dials (wire_tells old) (wire_tells new) at r
+dials_exactly old new at (Ok x) h made faults blank = record {
   keeps = record { tells = refl; count = ap length h.connections; lent = refl };
   blank = λ _. blank;
   connections = λ k. ap (λ (cs : List Connection). get_or cs k silent_connection) h.connections;
+  asked = λ _. h.asked;
   opened = λ _. (below_unless (nat_le (length old.connections) old.opened) old.opened (length old.connections) refl (λ le. let bad = h.fails.1 (inr le) in cc), h.opened.0, h.opened.1);
   failed = λ _. tt;
   steady = λ _ s _. (refl, steady_later old.calls new.calls h.counts.calls.failing made s);
   cause = kind_cause gate_fault (λ f. f.gate) old new (Ok x) h.counts (λ f. refl) faults;
   others = gate_others old new (Ok x) h.counts;
 }
-dials_exactly old new (Err e) h made faults blank = record {
+dials_exactly old new at (Err e) h made faults blank = record {
   keeps = record { tells = refl; count = ap length h.connections; lent = refl };
   blank = λ _. blank;
   connections = λ k. ap (λ (cs : List Connection). get_or cs k silent_connection) h.connections;
+  asked = λ _. h.asked;
   opened = λ _. tt;
   failed = λ _. h.failed;
   steady = λ _ s lt. elim (h.fails.0 refl) [ inl t ↦ steady_fails old s t | inr le ↦ absurd (omega (arith, le, lt)) ];
@@ -140,6 +146,7 @@ hangs_up_exactly old new (Ok x) h made faults blank = record {
   keeps = record { tells = refl; count = ap length h.connections; lent = refl };
   blank = λ _. blank;
   connections = λ k. ap (λ (cs : List Connection). get_or cs k silent_connection) h.connections;
+  asked = h.asked;
   opened = h.opened;
   shut = λ _. h.shut;
   closed = λ _ _. is_open_then old.is_open (λ f. let bad = h.fails.1 (inr f) in cc);
@@ -153,6 +160,7 @@ hangs_up_exactly old new (Err e) h made faults blank = record {
   keeps = record { tells = refl; count = ap length h.connections; lent = refl };
   blank = λ _. blank;
   connections = λ k. ap (λ (cs : List Connection). get_or cs k silent_connection) h.connections;
+  asked = h.asked;
   opened = h.opened;
   shut = λ _. h.shut;
   closed = λ _ k. cc;
@@ -165,22 +173,25 @@ hangs_up_exactly old new (Err e) h made faults blank = record {
 
 -- a call that changed at most the open connection
 uses : (old new : WireInMemory) (c : Connection) → new.connections ≡ set old.connections (old.opened - 1) c → IsTrue old.is_open → new.opened ≡ old.opened → new.is_open ≡ old.is_open
-    → AllBlankFrom old.opened old.connections → Uses (wire_tells old) (wire_tells new)
-uses old new c e o opened open_stays blank = record {
+    → new.asked ≡ old.asked → AllBlankFrom old.opened old.connections → Uses (wire_tells old) (wire_tells new)
+uses old new c e o opened open_stays asked blank = record {
   keeps = record { tells = refl; count = ap length e ∙ length-set old.connections (old.opened - 1) c; lent = refl };
   blank = λ _. blank;
   others = λ k ne. ap (λ (cs : List Connection). get_or cs k silent_connection) e ∙ get_or-set_other old.connections (old.opened - 1) k c silent_connection (ne o);
   opened = opened;
   is_open = open_stays;
+  asked = asked;
 }
 
-uses_none : (old new : WireInMemory) → new.connections ≡ old.connections → new.opened ≡ old.opened → new.is_open ≡ old.is_open → AllBlankFrom old.opened old.connections → Uses (wire_tells old) (wire_tells new)
-uses_none old new e opened open_stays blank = record {
+uses_none : (old new : WireInMemory) → new.connections ≡ old.connections → new.opened ≡ old.opened → new.is_open ≡ old.is_open → new.asked ≡ old.asked → AllBlankFrom old.opened old.connections
+    → Uses (wire_tells old) (wire_tells new)
+uses_none old new e opened open_stays asked blank = record {
   keeps = record { tells = refl; count = ap length e; lent = refl };
   blank = λ _. blank;
   others = λ k ne. ap (λ (cs : List Connection). get_or cs k silent_connection) e;
   opened = opened;
   is_open = open_stays;
+  asked = asked;
 }
 
 -- the open connection after a call that changed it
@@ -211,7 +222,7 @@ hears_exactly {E} old new buffer (Ok n) h made faults blank some cut within begu
     let c = last_of old in
     let e : get_or new.connections (old.opened - 1) silent_connection ≡ heard_on c n = changed old new (heard_on c n) h.heard (begun o) within in
     record {
-      uses = uses old new (heard_on c n) h.heard o h.opened h.is_open blank;
+      uses = uses old new (heard_on c n) h.heard o h.opened h.is_open h.asked blank;
       within = omega (arith, h.count);
       closed = λ _ _. o;
       rest = λ _ _. subst (λ (x : Connection). Consumes {E = E} c.rest x.rest buffer (Ok n)) (sym e) (consumed E n c buffer old.cut h.count h.bytes some cut);
@@ -226,7 +237,7 @@ hears_exactly {E} old new buffer (Ok n) h made faults blank some cut within begu
 hears_exactly {E} old new buffer (Err x) h made faults blank some cut within begun =
     let e : get_or new.connections (old.opened - 1) silent_connection ≡ last_of old = ap (λ (cs : List Connection). get_or cs (old.opened - 1) silent_connection) h.failed in
     record {
-      uses = uses_none old new h.failed h.opened h.is_open blank;
+      uses = uses_none old new h.failed h.opened h.is_open h.asked blank;
       within = tt;
       closed = λ _ k. cc;
       rest = λ _ _. ap (λ (c : Connection). c.rest) e;
@@ -247,7 +258,7 @@ says_exactly {T} {E} old new piece (Ok x) h made faults blank within begun =
     let fits : length piece ≤ c.room = at_most (nat_le (length piece) c.room) (length piece) c.room refl (λ lt. let bad = h.fails.1 (inr (inr lt)) in cc) in
     let e : get_or new.connections (old.opened - 1) silent_connection ≡ said_on c piece = changed old new (said_on c piece) h.said (begun o) within in
     record {
-      uses = uses old new (said_on c piece) h.said o h.opened h.is_open blank;
+      uses = uses old new (said_on c piece) h.said o h.opened h.is_open h.asked blank;
       closed = λ _ _. o;
       said = λ _. ap (λ (y : Connection). y.said) e;
       room = λ _. omega (arith, fits, ap (λ (y : Connection). y.room) e, ap (λ (y : Connection). length y.said) e, length-append c.said piece);
@@ -262,7 +273,7 @@ says_exactly {T} {E} old new piece (Err x) h made faults blank within begun =
     let c = last_of old in
     let e : get_or new.connections (old.opened - 1) silent_connection ≡ c = ap (λ (cs : List Connection). get_or cs (old.opened - 1) silent_connection) h.failed in
     record {
-      uses = uses_none old new h.failed h.opened h.is_open blank;
+      uses = uses_none old new h.failed h.opened h.is_open h.asked blank;
       closed = λ _ k. cc;
       said = λ _. (0, omega arith, ap (λ (y : Connection). y.said) e ∙ sym (append-nil c.said));
       room = λ _. ap (λ (y : Connection). y.room + length y.said) e;

@@ -37,6 +37,7 @@ other_line l = record {
   connection = λ k. if l.is_open && nat_eq k (last l) then quiet (l.connection k) else l.connection k;
   opened = l.opened;
   is_open = l.is_open;
+  asked = l.asked;
   gate = l.gate;
   hear = l.hear;
   hang = l.hang;
@@ -49,6 +50,7 @@ pub record KeepsAround (old new : Line) : Type 0 where
   pub heard : IsTrue old.is_open → KeepsHeard (old.connection (last old)) (new.connection (last old))
   pub opened : new.opened ≡ old.opened
   pub is_open : new.is_open ≡ old.is_open
+  pub asked : new.asked ≡ old.asked
   pub gate : new.gate ≡ old.gate
   pub hear : new.hear ≡ old.hear
   pub hang : new.hang ≡ old.hang

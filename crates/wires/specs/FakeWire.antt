@@ -24,12 +24,13 @@ heard_on c n = record {
 abbrev pub said_on : Connection → List ℕ → Connection
 said_on c piece = record { heard = c.heard; rest = c.rest; said = c.said ++ piece; turns = c.turns; room = c.room - length piece }
 
--- a wire in memory: its connections, how many were opened, whether the last of these is open, how many bytes it gives at most in one
--- `hear`, its calls, and how many of each kind failed
+-- a wire in memory: its connections, how many were opened, whether the last of these is open, the address asked for last, how many bytes
+-- it gives at most in one `hear`, its calls, and how many of each kind failed
 pub record WireInMemory : Type 0 where
   pub connections : List Connection
   pub opened : ℕ
   pub is_open : Bool
+  pub asked : List ℕ
   pub cut : ℕ
   pub calls : CallsMade
   pub faults : LineFaults
@@ -41,6 +42,7 @@ wire_tells w = record {
   connection = λ k. get_or w.connections k silent_connection;
   opened = w.opened;
   is_open = w.is_open;
+  asked = w.asked;
   steady = is_steady w.calls;
   gate = w.faults.gate;
   hear = w.faults.hear;
@@ -78,9 +80,10 @@ pub record CountsKind {T E : Type 0} (fault : LineFaults → LineFaults) (old ne
   pub counted : OnErr result (new.faults ≡ fault old.faults)
 
 -- a wait fails exactly where its number is one that fails
-pub record ListensInMemory {T E : Type 0} (old new : WireInMemory) (result : Result T E) : Type 0 where
+pub record ListensInMemory {T E : Type 0} (old new : WireInMemory) (at : List ℕ) (result : Result T E) : Type 0 where
   pub counts : CountsKind gate_fault old new result
   pub fails : IsErr result ↔ IsTrue (next_fails old.calls)
+  pub asked : new.asked ≡ at
   pub connections : new.connections ≡ old.connections
   pub opened : new.opened ≡ old.opened
   pub is_open : new.is_open ≡ old.is_open
@@ -89,6 +92,7 @@ pub record ListensInMemory {T E : Type 0} (old new : WireInMemory) (result : Res
 pub record OpensInMemory {E : Type 0} (old new : WireInMemory) (result : Result Bool E) : Type 0 where
   pub counts : CountsKind gate_fault old new result
   pub fails : IsErr result ↔ IsTrue (next_fails old.calls)
+  pub asked : new.asked ≡ old.asked
   pub connections : new.connections ≡ old.connections
   pub came : IfOk result (λ came. IsTrue came ↔ (old.opened < length old.connections))
   pub opened : IfOk result (λ came. IsTrue came → (new.opened ≡ old.opened + 1) × IsTrue new.is_open)
@@ -96,9 +100,10 @@ pub record OpensInMemory {E : Type 0} (old new : WireInMemory) (result : Result 
   pub failed : OnErr result ((new.opened ≡ old.opened) × IsFalse new.is_open)
 
 -- a dial fails exactly where its number is one that fails or no connection is left
-pub record DialsInMemory {T E : Type 0} (old new : WireInMemory) (result : Result T E) : Type 0 where
+pub record DialsInMemory {T E : Type 0} (old new : WireInMemory) (at : List ℕ) (result : Result T E) : Type 0 where
   pub counts : CountsKind gate_fault old new result
   pub fails : IsErr result ↔ (IsTrue (next_fails old.calls) ⊎ (length old.connections ≤ old.opened))
+  pub asked : new.asked ≡ at
   pub connections : new.connections ≡ old.connections
   pub opened : OnOk result ((new.opened ≡ old.opened + 1) × IsTrue new.is_open)
   pub failed : OnErr result ((new.opened ≡ old.opened) × IsFalse new.is_open)
@@ -108,6 +113,7 @@ pub record DialsInMemory {T E : Type 0} (old new : WireInMemory) (result : Resul
 pub record HearsInMemory {E : Type 0} (old new : WireInMemory) (buffer : List ℕ) (result : Result ℕ E) : Type 0 where
   pub counts : CountsKind hear_fault old new result
   pub fails : IsErr result ↔ (IsTrue (next_fails old.calls) ⊎ IsFalse old.is_open)
+  pub asked : new.asked ≡ old.asked
   pub count : IfOk result (λ n. n ≡ min (min (length (last_of old).rest) (length buffer)) old.cut)
   pub bytes : IfOk result (λ n. take n buffer ≡ take n (last_of old).rest)
   pub heard : IfOk result (λ n. new.connections ≡ set old.connections (old.opened - 1) (heard_on (last_of old) n))
@@ -119,6 +125,7 @@ pub record HearsInMemory {E : Type 0} (old new : WireInMemory) (buffer : List �
 pub record SaysInMemory {T E : Type 0} (old new : WireInMemory) (piece : List ℕ) (result : Result T E) : Type 0 where
   pub counts : CountsKind say_fault old new result
   pub fails : IsErr result ↔ (IsTrue (next_fails old.calls) ⊎ IsFalse old.is_open ⊎ ((last_of old).room < length piece))
+  pub asked : new.asked ≡ old.asked
   pub said : OnOk result (new.connections ≡ set old.connections (old.opened - 1) (said_on (last_of old) piece))
   pub failed : OnErr result (new.connections ≡ old.connections)
   pub opened : new.opened ≡ old.opened
@@ -128,6 +135,7 @@ pub record SaysInMemory {T E : Type 0} (old new : WireInMemory) (piece : List �
 pub record HangsUpInMemory {T E : Type 0} (old new : WireInMemory) (result : Result T E) : Type 0 where
   pub counts : CountsKind hang_fault old new result
   pub fails : IsErr result ↔ (IsTrue (next_fails old.calls) ⊎ IsFalse old.is_open)
+  pub asked : new.asked ≡ old.asked
   pub connections : new.connections ≡ old.connections
   pub opened : new.opened ≡ old.opened
   pub shut : IsFalse new.is_open

@@ -26,6 +26,7 @@ pub record OtherLine : Type 0 where
   pub connection : ℕ → Connection
   pub opened : ℕ
   pub is_open : Bool
+  pub asked : List ℕ
   pub gate : ℕ
   pub hear : ℕ
   pub hang : ℕ

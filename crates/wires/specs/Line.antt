@@ -7,12 +7,15 @@ use Rattle.wires.specs.Written.{Appends}
 
 -- what a wire tells. The connections are numbered from 0; the first `opened` of them were opened, and the last of these is open where `is_open` says so
 pub record Line : Type 0 where
-  -- whether it tells its content: the connections, which is open and whether it is steady, which mean nothing where it does not
+  -- whether it tells its content: the connections, which is open, the address asked for and whether it is steady, which mean nothing where it
+  -- does not
   pub tells : Bool
   pub count : ℕ
   pub connection : ℕ → Connection
   pub opened : ℕ
   pub is_open : Bool
+  -- the address that was listened at or dialled last, as bytes
+  pub asked : List ℕ
   -- no proper call fails
   pub steady : Bool
   -- the faults of listen, next and dial, of hear, of say, and of hang_up
@@ -60,11 +63,12 @@ pub record KeepsLineAndHang (old new : Line) : Type 0 where
   pub say : new.say ≡ old.say
   pub hang : new.hang ≡ old.hang
 
--- a wait at an address: it changes no connection, nor which is open and which are left
-pub record Listens {T E : Type 0} (old new : Line) (result : Result T E) : Type 0 where
+-- a wait at an address, which is then the one asked for last: it changes no connection, nor which is open and which are left
+pub record Listens {T E : Type 0} (old new : Line) (at : List ℕ) (result : Result T E) : Type 0 where
   pub keeps : Keeps old new
   pub blank : IsTrue old.tells → AllLeftAreBlank old
   pub connections : KeepsConnections old new
+  pub asked : IsTrue old.tells → new.asked ≡ at
   pub opened : new.opened ≡ old.opened
   pub is_open : new.is_open ≡ old.is_open
   pub steady : IsTrue old.tells → IsTrue old.steady → IsOk result × IsTrue new.steady
@@ -76,6 +80,7 @@ pub record Opens {E : Type 0} (old new : Line) (result : Result Bool E) : Type 0
   pub keeps : Keeps old new
   pub blank : IsTrue old.tells → AllLeftAreBlank old
   pub connections : KeepsConnections old new
+  pub asked : new.asked ≡ old.asked
   pub opened : IsTrue old.tells → IfOk result (λ came. IsTrue came → (old.opened < old.count) × (new.opened ≡ old.opened + 1) × IsTrue new.is_open)
   pub none : IsTrue old.tells → IfOk result (λ came. IsFalse came ↔ (old.count ≤ old.opened))
   pub not_opened : IsTrue old.tells → IfOk result (λ came. IsFalse came → (new.opened ≡ old.opened) × IsFalse new.is_open)
@@ -84,24 +89,26 @@ pub record Opens {E : Type 0} (old new : Line) (result : Result Bool E) : Type 0
   pub cause : HasCause old.gate new.gate result
   pub others : KeepsLineAndHang old new
 
--- the next connection is opened to an address. One that was open before is closed, whatever is answered
-pub record Dials {T E : Type 0} (old new : Line) (result : Result T E) : Type 0 where
+-- the next connection is opened to an address, which is then the one asked for last. One that was open before is closed, whatever is answered
+pub record Dials {T E : Type 0} (old new : Line) (at : List ℕ) (result : Result T E) : Type 0 where
   pub keeps : Keeps old new
   pub blank : IsTrue old.tells → AllLeftAreBlank old
   pub connections : KeepsConnections old new
+  pub asked : IsTrue old.tells → new.asked ≡ at
   pub opened : IsTrue old.tells → OnOk result ((old.opened < old.count) × (new.opened ≡ old.opened + 1) × IsTrue new.is_open)
   pub failed : IsTrue old.tells → OnErr result ((new.opened ≡ old.opened) × IsFalse new.is_open)
   pub steady : IsTrue old.tells → IsTrue old.steady → old.opened < old.count → IsOk result × IsTrue new.steady
   pub cause : HasCause old.gate new.gate result
   pub others : KeepsLineAndHang old new
 
--- no connection but the open one changed, and which is open and which are left stays
+-- no connection but the open one changed, and which is open, which are left and the address stay
 pub record Uses (old new : Line) : Type 0 where
   pub keeps : Keeps old new
   pub blank : IsTrue old.tells → AllLeftAreBlank old
   pub others : (k : ℕ) → (IsTrue old.is_open → k ≢ last old) → new.connection k ≡ old.connection k
   pub opened : new.opened ≡ old.opened
   pub is_open : new.is_open ≡ old.is_open
+  pub asked : new.asked ≡ old.asked
 
 -- a read that gave bytes is a turn more, and what it gave was heard
 abbrev pub TurnsAfter : {E : Type 0} → Connection → Connection → Result ℕ E → Type 0
@@ -151,6 +158,7 @@ pub record HangsUp {T E : Type 0} (old new : Line) (result : Result T E) : Type 
   pub keeps : Keeps old new
   pub blank : IsTrue old.tells → AllLeftAreBlank old
   pub connections : KeepsConnections old new
+  pub asked : new.asked ≡ old.asked
   pub opened : new.opened ≡ old.opened
   pub shut : IsTrue old.tells → IsFalse new.is_open
   pub closed : IsTrue old.tells → IsOk result → IsTrue old.is_open

@@ -52,6 +52,7 @@ silent_wire faults = record {
   connection = λ _. silent_connection;
   opened = 0;
   is_open = false;
+  asked = [];
   steady = false;
   gate = faults.gate;
   hear = faults.hear;

@@ -5,6 +5,7 @@ ghost use Rattle.wires.specs.FakeWire.{DialsInMemory, HangsUpInMemory, HearsInMe
 ghost use Rattle.wires.specs.Line.{Dials, HangsUp, Hears, Listens, Opens, Says};
 ghost use Rattle.wires.specs.Silent.{no_faults};
 
+use crate::asked::Asked;
 use crate::fakes::{Calls, move_front};
 use crate::wire::Wire;
 use crate::{Failed, Memory, raise};
@@ -171,6 +172,7 @@ pub struct MemoryWire {
     talks: Vec<Talk>,
     opened: usize,
     is_open: bool,
+    asked: Asked,
     cut: usize,
     calls: Calls,
     faults: Faults,
@@ -182,7 +184,7 @@ impl Model for MemoryWire {
 
     ghost Value = { WireInMemory };
 
-    ghost view = { λ w. record { connections = w.talks.items; opened = w.opened; is_open = w.is_open; cut = w.cut; calls = w.calls; faults = w.faults } };
+    ghost view = { λ w. record { connections = w.talks.items; opened = w.opened; is_open = w.is_open; asked = w.asked.address; cut = w.cut; calls = w.calls; faults = w.faults } };
 
     ghost invariant = { λ w. (0 < w.cut) × (w.opened ≤ length w.talks.items) × (IsTrue w.is_open → 0 < w.opened) × AllBlankFrom w.opened w.talks.items };
 }
@@ -199,7 +201,7 @@ impl MemoryWire {
         failing: &[u64],
     ) -> Result<MemoryWire, Memory>
         requires { 0 < cut }
-        ensures { IfOk result (λ w. w ≡ record { connections = map (λ bytes. unused bytes.items room) heard.now; opened = 0; is_open = false; cut = cut; calls = no_calls failing.now; faults = no_faults }) }
+        ensures { IfOk result (λ w. w ≡ record { connections = map (λ bytes. unused bytes.items room) heard.now; opened = 0; is_open = false; asked = []; cut = cut; calls = no_calls failing.now; faults = no_faults }) }
     {
         let Ok(talks) = talks_of(alloc, heard, room) else {
             return Err(Memory);
@@ -211,6 +213,7 @@ impl MemoryWire {
             talks,
             opened: 0,
             is_open: false,
+            asked: Asked::of(&[]),
             cut,
             calls,
             faults: Faults::none(),
@@ -239,10 +242,11 @@ impl Wire for MemoryWire {
     ghost state = { wire_tells };
 
     /// Fails exactly where the number of the call is one that fails.
-    fn listen(&mut self, _at: &str) -> Result<(), Failed>
-        ensures listens { Listens (wire_tells self.old) (wire_tells self.new) result }
-        ensures exactly { ListensInMemory self.old self.new result }
+    fn listen(&mut self, at: &str) -> Result<(), Failed>
+        ensures listens { Listens (wire_tells self.old) (wire_tells self.new) at.now result }
+        ensures exactly { ListensInMemory self.old self.new at.now result }
     {
+        self.asked = Asked::of(at.as_bytes());
         if self.calls.fails_unless(true) {
             self.faults.raise_gate();
             return Err(Failed);
@@ -269,11 +273,12 @@ impl Wire for MemoryWire {
     }
 
     /// Fails exactly where the number of the call is one that fails or no connection is left.
-    fn dial(&mut self, _at: &str) -> Result<(), Failed>
-        ensures dials { Dials (wire_tells self.old) (wire_tells self.new) result }
-        ensures exactly { DialsInMemory self.old self.new result }
+    fn dial(&mut self, to: &str) -> Result<(), Failed>
+        ensures dials { Dials (wire_tells self.old) (wire_tells self.new) to.now result }
+        ensures exactly { DialsInMemory self.old self.new to.now result }
     {
         self.is_open = false;
+        self.asked = Asked::of(to.as_bytes());
         if self.calls.fails_unless(self.opened < self.talks.len()) {
             self.faults.raise_gate();
             return Err(Failed);

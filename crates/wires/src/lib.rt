@@ -24,6 +24,7 @@
 //! | `fakes` | `MemorySource` and `MemorySink`, which fail at the calls that they are told to |
 //! | `fake_shelf` | `MemoryShelf`, a shelf in memory |
 //! | `fake_wire` | `MemoryWire`, a wire in memory |
+//! | `asked` | `Asked`, the address that a wire in memory was asked for, which contracts see and which takes no bytes |
 //! | `nothing` | `NoWire` and `NoShelf`, which fail at every call |
 //! | `steps` | `Steps`, a counter that contracts see and that takes no bytes, and `Work`, a ledger to count in |
 //!
@@ -34,6 +35,7 @@
 ghost use Rattle.std.specs.Prelude.{◌≡◌, ◌≤◌};
 ghost use Rattle.wires.specs.Causes.{next_count};
 
+mod asked;
 pub mod byte_bits;
 #[cfg(test)]
 mod callers;

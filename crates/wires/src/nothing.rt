@@ -96,7 +96,7 @@ impl Wire for NoWire {
     ghost state = { silent_wire };
 
     fn listen(&mut self, _at: &str) -> Result<(), Failed>
-        ensures listens { Listens (silent_wire self.old) (silent_wire self.new) result }
+        ensures listens { Listens (silent_wire self.old) (silent_wire self.new) _at.now result }
         ensures refuses { Refuses self.old.gate self.new.gate result }
     {
         raise(&mut self.gate);
@@ -112,7 +112,7 @@ impl Wire for NoWire {
     }
 
     fn dial(&mut self, _at: &str) -> Result<(), Failed>
-        ensures dials { Dials (silent_wire self.old) (silent_wire self.new) result }
+        ensures dials { Dials (silent_wire self.old) (silent_wire self.new) _at.now result }
         ensures refuses { Refuses self.old.gate self.new.gate result }
     {
         raise(&mut self.gate);

@@ -8,7 +8,8 @@ use crate::sink::Sink;
 
 /// A line that waits for connections or dials them, one after another. It tells four counts: gate faults are those of
 /// `listen`, `next` and `dial`, hear faults those of `hear`, say faults those of `say`, hang faults those of `hang_up`.
-/// Each call leaves the three counts that are not its own. With no connection open `hear`, `say` and `hang_up` answer
+/// Each call leaves the three counts that are not its own. `listen` and `dial` make their address the one asked for last, whatever they
+/// answer, and the other calls leave it. With no connection open `hear`, `say` and `hang_up` answer
 /// `Failed`. Whatever they answer, `hear` and `say` change no connection but the open one, and the other calls none.
 pub trait Wire {
     /// Its content is the list of connections.
@@ -16,7 +17,7 @@ pub trait Wire {
 
     /// Waits for connections at an address. It is always proper.
     fn listen(&mut self, at: &str) -> Result<(), Failed>
-        ensures { Listens (state self.old) (state self.new) result };
+        ensures { Listens (state self.old) (state self.new) at.now result };
 
     /// Opens the next connection, and answers false exactly where no further one comes. It first closes a connection
     /// that is still open, whatever it then answers. It is always proper.
@@ -26,7 +27,7 @@ pub trait Wire {
     /// Opens the next connection, to this address. It first closes a connection that is still open, whatever it then
     /// answers. It is proper where a connection is left.
     fn dial(&mut self, at: &str) -> Result<(), Failed>
-        ensures { Dials (state self.old) (state self.new) result };
+        ensures { Dials (state self.old) (state self.new) at.now result };
 
     /// Moves some of the bytes still to be heard on the open connection into the front of `into`, which is not empty,
     /// and answers how many. It answers 0 exactly where none are left. After `Failed` nothing was heard. It is proper

@@ -5,7 +5,7 @@ use Rattle.station.proofs.Servings.{all_served, at_listen, begun, all_spare}
 use Rattle.station.proofs.session.Station.serve.Goals as goal
 
 pub returns-in-Err-listen-clause-served : goal.returns-in-Err-listen-clause-served
-returns-in-Err-listen-clause-served g c = at_listen _ _ _ _ _ _ _ _ _ _ _ c.in_default.ensures c.in-Err-listen.ensures
+returns-in-Err-listen-clause-served g c = at_listen _ _ _ _ _ _ _ _ _ _ _ _ c.in_default.ensures c.in-Err-listen.ensures
 
 pub loop-k-init : goal.loop-k-init
 loop-k-init g c =
@@ -13,7 +13,7 @@ loop-k-init g c =
     record {
       settings = ap (λ (h : Hall). h.settings) c.self.view_is;
       cells_stay = all_spare c.clear.new.self c.clear.ensures.live ∙ spare;
-      so_far = ([], begun _ _ _ _ _ _ _ _ _ c.clear.new.self _ _ c.in_default.ensures c.in_default-listen.ensures c.clear.ensures.live spare, refl);
+      so_far = ([], begun _ _ _ _ _ _ _ _ _ _ c.clear.new.self _ _ c.in_default.ensures c.in_default-listen.ensures c.clear.ensures.live spare, refl);
     }
 
 pub loop-k-preserved : goal.loop-k-preserved
@@ -23,16 +23,16 @@ loop-k-preserved g c =
     record {
       settings = c.serve_next.ensures.settings ∙ i.settings;
       cells_stay = c.serve_next.ensures.cells_stay ∙ i.cells_stay;
-      so_far = c.in_default-serve_next.ensures.further c.args.self.now.settings (cells c.args.self.now.pool) c.args.count _ _ i.settings i.so_far.1 (omega (arith, n)) (omega arith);
+      so_far = c.in_default-serve_next.ensures.further c.args.self.now.settings (cells c.args.self.now.pool) c.args.count _ _ _ i.settings i.so_far.1 (omega (arith, n)) (omega arith);
     }
 
 pub returns-in-Some-clause-served : goal.returns-in-Some-clause-served
 returns-in-Some-clause-served g c =
     let i = c.loop-k.invariant in
     let n = i.so_far.2 in
-    c.in-Some.ensures.further c.args.self.now.settings (cells c.args.self.now.pool) c.args.count _ _ i.settings i.so_far.1 (omega (arith, n)) (omega arith)
+    c.in-Some.ensures.further c.args.self.now.settings (cells c.args.self.now.pool) c.args.count _ _ _ i.settings i.so_far.1 (omega (arith, n)) (omega arith)
 
 pub returns-clause-served : goal.returns-clause-served
 returns-clause-served g c =
     let i = c.loop-k.invariant in
-    all_served _ _ _ _ _ _ _ _ i.so_far.1 (omega (arith, i.so_far.2))
+    all_served _ _ _ _ _ _ _ _ _ i.so_far.1 (omega (arith, i.so_far.2))

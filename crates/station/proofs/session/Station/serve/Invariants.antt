@@ -11,6 +11,6 @@ invariant-loop-k g l = record {
   cells_stay : cells l.self.pool ≡ cells l.fn.self.pool;
   so_far : (sessions : List (Served l.fn.self.settings (cells l.fn.self.pool)))
       × SoFar (record { wire = g.W.Wire.state l.fn.wire; shelf = g.F.Shelf.state l.fn.shelf; out = g.O.Sink.state l.fn.out })
-      (record { wire = g.W.Wire.state l.wire; shelf = g.F.Shelf.state l.shelf; out = g.O.Sink.state l.out }) l.air l.count l.self.pool sessions
+      (record { wire = g.W.Wire.state l.wire; shelf = g.F.Shelf.state l.shelf; out = g.O.Sink.state l.out }) l.address l.air l.count l.self.pool sessions
       × (length sessions ≡ l.k);
 }
