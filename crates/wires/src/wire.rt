@@ -8,9 +8,9 @@ use crate::sink::Sink;
 
 /// A line that waits for connections or dials them, one after another. It tells four counts: gate faults are those of
 /// `listen`, `next` and `dial`, hear faults those of `hear`, say faults those of `say`, hang faults those of `hang_up`.
-/// Each call leaves the three counts that are not its own. `listen` and `dial` make their address the one asked for last, whatever they
-/// answer, and the other calls leave it. With no connection open `hear`, `say` and `hang_up` answer
-/// `Failed`. Whatever they answer, `hear` and `say` change no connection but the open one, and the other calls none.
+/// Each call leaves the three counts that are not its own. With no connection open `hear`, `say` and `hang_up` answer
+/// `Failed`. Whatever they answer, `hear` and `say` change no connection but the open one, and the other calls none, and
+/// the address of `listen` and of `dial` is then the one that was asked for last, which the other calls leave.
 pub trait Wire {
     /// Its content is the list of connections.
     ghost state: { Self → Line };
