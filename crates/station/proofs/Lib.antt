@@ -53,3 +53,4 @@ pub mod CallEnds
 pub mod PutOutcomes
 pub mod CallsUp
 pub mod PagesRead
+pub mod Delivered

@@ -34,3 +34,4 @@ pub mod Progress
 pub mod Conversations
 pub mod OutcomeLines
 pub mod Calls
+pub mod Delivered

@@ -1,8 +1,9 @@
-//! Laws of what `one` reads, of the pages that a session accepts, of what is heard of transmissions with few wrong bits, and of a
-//! client and a terminal that hear one another.
+//! Laws of what `one` reads, of the pages that a session accepts, of what is heard of transmissions with few wrong bits, of a client and
+//! a terminal that hear one another, and of the whole way from clients to receivers.
 
 ghost use Rattle.std.specs.Prelude.{◌≡◌, ℕ, Bool, List};
 ghost use Rattle.station.specs.AcceptedPages.{AreAcceptable};
+ghost use Rattle.station.specs.Delivered.{Delivered};
 ghost use Rattle.station.specs.Joined.{BothEnds};
 ghost use Rattle.station.specs.LoneBlock.{HasText, IsMarkedBlock};
 ghost use Rattle.station.specs.NearAir.{CleanAir, NearAir};
@@ -25,6 +26,13 @@ pub fn near_air()
 /// accepted pages are those that the client marks Sent, in their order, each with its id's subscriber and its text.
 pub fn joined()
     ensures { BothEnds }
+{}
+
+/// From clients to receivers: where clients and the terminal of a station hear one another, and the transmissions of what it accepted
+/// are heard with every preamble as it was sent and with at most two wrong bits in every other word, a receiver hears exactly the pages
+/// that the clients mark Sent to its capcodes, whole, and for each capcode in order.
+pub fn delivered()
+    ensures { Delivered }
 {}
 
 /// Each page that a session accepts under the settings of a file has a usable capcode, and a text that fits its function. This is

@@ -25,7 +25,7 @@
 //! - `conversing`: a client's call over the open connection, with `stages`, where the client stands and what a byte brings.
 //! - `outcome_lines`: what became of the pages, line by line.
 //! - `laws`: an input is at most one block, and a content has at most one text; the pages that a session accepts; what is heard of
-//!   transmissions with few wrong bits; what holds of a client and a terminal together.
+//!   transmissions with few wrong bits; what holds of a client and a terminal together, and of the way from clients to receivers.
 #![tactic(auto)]
 
 #[cfg(test)]

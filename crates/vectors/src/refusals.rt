@@ -164,3 +164,43 @@ fn a_settings_file_of_too_many_bytes_is_named(rt: HostRuntime) -> Result<(), Fai
     }
     Ok(())
 }
+
+/// A settings file with so many subscribers, whose ids are numbers from 0.
+fn with_subscribers(alloc: Global, count: u32) -> Result<Vec<u8>, Fail> {
+    let mut file = Vec::from_slice(alloc, b"cells = 1\nsubscriber = [\n".as_slice())?;
+    for id in 0..count {
+        let entry = format!(in alloc; "{{id = \"{id}\", capcode = 8, class = \"alpha\"}},\n")?;
+        file.extend_from_slice(entry.as_bytes())?;
+    }
+    file.extend_from_slice(b"]\n")?;
+    Ok(file)
+}
+
+#[test]
+fn a_settings_file_of_too_many_subscribers_is_named(rt: HostRuntime) -> Result<(), Fail> {
+    let settings = with_subscribers(rt.alloc(), 10_001)?;
+    for words in READING {
+        let left = ran_with(rt.alloc(), words, "s1.toml", &settings)?;
+        assert_eq!(rt; left.status, Status::Settings);
+        assert_eq!(rt;
+            left.err.as_slice(),
+            b"pocsag: settings: too many\n".as_slice()
+        );
+    }
+    Ok(())
+}
+
+#[test]
+fn a_pages_file_of_too_many_bytes_is_named(rt: HostRuntime) -> Result<(), Fail> {
+    let pages = vec![in rt.alloc(); b'A'; 1_048_577]?;
+    let words = &["send", "127.0.0.1:7000", "pages.txt"];
+    let left = ran_with(rt.alloc(), words, "pages.txt", &pages)?;
+    assert_eq!(rt; left.status, Status::BadPages);
+    assert_eq!(rt; left.status.code(), 15);
+    assert!(rt; left.out.is_empty());
+    assert_eq!(rt;
+        left.err.as_slice(),
+        b"pocsag: pages file: too long\n".as_slice()
+    );
+    Ok(())
+}

@@ -1,0 +1,46 @@
+-- What clients mark Sent is what receivers hear.
+use Rattle.std.proofs.Common.{◌≡◌, ℕ, Bool, true, List, [], ◌∷◌, ◌++◌, map, Option, Some, None, Ok, refl, sym, ◌∙◌, ap, ap₂}
+use Rattle.std.proofs.lemmas.List.Elements.{All-nil, All-cons}
+use Rattle.std.specs.Prelude.{All}
+use Rattle.page_text.specs.Page.{Page as Accepted, IsAcceptable}
+use Rattle.subscribers.specs.Parts.{Parts}
+use Rattle.subscribers.specs.Settings.{settings_of}
+use Rattle.subscribers.specs.declared.subscriber.Subscriber.{Subscriber}
+use Rattle.tap_terminal.specs.Desk.{directory_of}
+use Rattle.tap_terminal.specs.Verdict.{Directory}
+use Rattle.tap_entry.specs.Client.{Page}
+use Rattle.station.proofs.AcceptablePages.{are_acceptable}
+use Rattle.station.proofs.BothEnds.{both_ends}
+use Rattle.station.proofs.NearAir.{near_air}
+use Rattle.station.specs.Delivered.{Call, Delivered, accepted_by, page_for, pages_for, sent_by}
+use Rattle.station.specs.Joined.{AreFor, sent_of}
+use Rattle.station.specs.NearAir.{joined, pages_of}
+
+-- pages that are those of a client's are the client's as pages of their subscribers
+AreFor-pages_for : (directory : Directory) (pages : List Page) (accepted : List Accepted) → AreFor directory pages accepted → accepted ≡ pages_for directory pages
+AreFor-pages_for directory [] [] h = refl
+AreFor-pages_for directory [] (a ∷ accepted) h = elim h [ ]
+AreFor-pages_for directory (p ∷ pages) [] h = elim h [ ]
+AreFor-pages_for directory (p ∷ pages) (a ∷ accepted) h =
+    ap₂ (λ (x : Accepted) (xs : List Accepted). x ∷ xs) h.0.2 (AreFor-pages_for directory pages accepted h.1)
+    ∙ sym (ap (λ (o : Option Subscriber). page_for o p.text ++ pages_for directory pages) h.0.1)
+
+-- what a call accepted is what its client marks Sent
+accepted-sent : {settings : Parts} {spare : ℕ} (call : Call settings spare) → call.session.pages ≡ pages_for (directory_of settings) (sent_of call.pages call.outcomes)
+accepted-sent {settings = settings} {spare = spare} call =
+    AreFor-pages_for (directory_of settings) (sent_of call.pages call.outcomes) call.session.pages
+    (both_ends call.password settings.password (directory_of settings) spare call.pages call.replied call.said call.marks call.outcomes call.session
+    call.are_pages call.few call.is_password call.marks_are call.client call.session_is call.replies_are)
+
+joined-sent : {settings : Parts} {spare : ℕ} (calls : List (Call settings spare)) → joined (accepted_by calls) ≡ sent_by calls
+joined-sent [] = refl
+joined-sent (call ∷ calls) = ap₂ (λ (x y : List Accepted). x ++ y) (accepted-sent call) (joined-sent calls)
+
+acceptable_by : (bytes : List ℕ) {settings : Parts} {spare : ℕ} (calls : List (Call settings spare)) → settings_of bytes ≡ Ok settings → All (All IsAcceptable) (accepted_by calls)
+acceptable_by bytes [] h = All-nil (All IsAcceptable)
+acceptable_by bytes {settings = settings} {spare = spare} (call ∷ calls) h =
+    All-cons (All IsAcceptable) call.session.pages (accepted_by calls) (are_acceptable bytes settings spare call.said call.session h call.session_is) (acceptable_by bytes calls h)
+
+pub delivered : Delivered
+delivered bytes settings spare calls listens bits h usable near capcode l =
+    near_air listens (accepted_by calls) bits usable (acceptable_by bytes calls h) near capcode l ∙ ap (pages_of capcode) (joined-sent calls)

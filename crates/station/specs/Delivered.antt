@@ -1,0 +1,65 @@
+-- What clients hand over, and what receivers hear of it.
+use Rattle.std.specs.Prelude.{◌≡◌, ℕ, ◌≤◌, Bool, true, List, [], ◌∷◌, length, map, flat_map, Option, Some, None, Ok}
+use Rattle.std.specs.List.{AllByRecursion}
+use Rattle.page_text.specs.Page.{Page as Accepted}
+use Rattle.air.specs.Near.{Near}
+use Rattle.receiver.specs.Heard.{with_text, heard}
+use Rattle.subscribers.specs.Parts.{Parts}
+use Rattle.subscribers.specs.Settings.{settings_of}
+use Rattle.subscribers.specs.declared.subscriber.Subscriber.{Subscriber}
+use Rattle.tap_terminal.specs.Desk.{directory_of}
+use Rattle.tap_terminal.specs.Replies.{replies}
+use Rattle.tap_terminal.specs.Session.{Session}
+use Rattle.tap_terminal.specs.Verdict.{Directory}
+use Rattle.tap_entry.specs.Client.{Client, IsPage, Page}
+use Rattle.tap_entry.specs.Marks.{AreHeard}
+use Rattle.tap_entry.specs.PagesFile.{IsPassword}
+use Rattle.tap_entry.specs.declared.hearing.Mark.{Mark}
+use Rattle.tap_entry.specs.declared.outcomes.Outcome.{Outcome}
+use Rattle.station.specs.Joined.{sent_of}
+use Rattle.station.specs.NearAir.{AreUsable, pages_of}
+use Rattle.station.specs.Sessions.{SessionOf}
+
+-- A client calls the terminal of these settings, and each hears what the other says: the client has these marks of the replies, and
+-- says for them what the terminal has this session of.
+pub record Call (settings : Parts) (spare : ℕ) : Type 0 where
+  pub password : Option (List ℕ)
+  pub pages : List Page
+  pub replied : List ℕ
+  pub said : List ℕ
+  pub marks : List Mark
+  pub outcomes : List Outcome
+  pub session : Session
+  pub is_password : IsPassword password
+  pub are_pages : AllByRecursion IsPage pages
+  pub few : length pages ≤ 1000
+  pub marks_are : AreHeard replied marks
+  pub client : Client password pages marks outcomes said
+  pub session_is : SessionOf settings spare said session
+  pub replies_are : replied ≡ replies session.answers
+
+-- the page of a subscriber, and none where there is none
+abbrev pub page_for : Option Subscriber → List ℕ → List Accepted
+page_for None text = []
+page_for (Some s) text = record { capcode = s.capcode; function = s.function; text = text } ∷ []
+
+-- the pages of a client, each as one of its id's subscriber
+abbrev pub pages_for : Directory → List Page → List Accepted
+pages_for directory pages = flat_map (λ page. page_for (directory page.id) page.text) pages
+
+-- the pages that the sessions of calls accepted, session by session
+abbrev pub accepted_by : {settings : Parts} {spare : ℕ} → List (Call settings spare) → List (List Accepted)
+accepted_by calls = map (λ call. call.session.pages) calls
+
+-- the pages that the clients of calls mark Sent, call by call
+abbrev pub sent_by : {settings : Parts} {spare : ℕ} → List (Call settings spare) → List Accepted
+sent_by {settings = settings} calls = flat_map (λ call. pages_for (directory_of settings) (sent_of call.pages call.outcomes)) calls
+
+-- Where the transmissions of what calls accepted are heard with every preamble as it was sent, and with at most two wrong bits in every
+-- other word, the pages heard of each usable capcode that is listened to are exactly those that clients mark Sent to it, in order, whole.
+abbrev pub Delivered : Type 0
+Delivered =
+    (bytes : List ℕ) (settings : Parts) (spare : ℕ) (calls : List (Call settings spare)) (listens : ℕ → Bool) (bits : List Bool)
+    → settings_of bytes ≡ Ok settings → AreUsable listens → Near (accepted_by calls) bits
+    → (capcode : ℕ) → listens capcode ≡ true
+    → pages_of capcode (map with_text (heard listens bits)) ≡ pages_of capcode (sent_by calls)
