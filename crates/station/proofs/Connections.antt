@@ -1,12 +1,12 @@
 -- One connection more was served, or none.
-use Rattle.std.proofs.Common.{◌≡◌, ◌≢◌, ℕ, ◌+◌, ◌-◌, ◌≤◌, ◌<◌, inl, inr, suc, add-zero, Bool, true, List, [], ◌∷◌, ◌++◌, append-nil, append_assoc, length, length-append, Ok, IsTrue, refl, sym, ◌∙◌, ap, subst, arith}
+use Rattle.std.proofs.Common.{◌≡◌, ◌≢◌, ℕ, ◌+◌, ◌-◌, ◌≤◌, ◌<◌, inl, inr, suc, add-zero, Bool, true, List, [], ◌∷◌, ◌++◌, append-nil, append_assoc, length, length-append, Result, Ok, IsTrue, refl, sym, ◌∙◌, ap, subst, arith}
 use Rattle.subscribers.specs.Parts.{Parts}
 use Rattle.wires.proofs.Opened.{Opens-blank}
 use Rattle.wires.proofs.Written.{still}
 use Rattle.wires.specs.Held.{Connection}
-use Rattle.wires.specs.Line.{IsBlank, Line, Opens}
+use Rattle.wires.specs.Line.{IsBlank, Line, Listens, Opens}
 use Rattle.station.specs.declared.session.SessionEnd.TheVariants.{LineLost}
-use Rattle.station.specs.Served.{AllFrom, FitWire, IsAt, NoneLost, Served, WellServed, WireAfter, airs, line_for, lines}
+use Rattle.station.specs.Served.{AllFrom, Chain, FitWire, IsAt, NoneLost, Served, Waited, WellServed, WireAfter, airs, line_for, lines}
 use Rattle.station.specs.Sessions.{Fits}
 use Rattle.station.specs.Talk.{here}
 
@@ -37,28 +37,64 @@ none_lost-append : {settings : Parts} {spare : ℕ} (l : List (Served settings s
 none_lost-append [] s h k = (k, tt)
 none_lost-append (x ∷ l) s h k = (h.0, none_lost-append l s h.1 k)
 
+-- `listen` and `next` are waits
+pub waited_listen : {T E : Type 0} (old new : Line) (address : List ℕ) (r : Result T E) → Listens old new address r → Waited old new
+waited_listen old new address r h = record { keeps = h.keeps; connections = h.connections; counts = h.others; steady = λ t s. (h.steady t s).1 }
+
+pub waited_next : {E : Type 0} (old new : Line) (r : Result Bool E) → Opens old new r → Waited old new
+waited_next old new r h = record { keeps = h.keeps; connections = h.connections; counts = h.others; steady = λ t s. (h.steady t s).1 }
+
+-- one wait and one more
+waited_then : (a b c : Line) → Waited a b → Waited b c → Waited a c
+waited_then a b c h k = record {
+  keeps = record { tells = k.keeps.tells ∙ h.keeps.tells; count = k.keeps.count ∙ h.keeps.count; lent = k.keeps.lent ∙ h.keeps.lent };
+  connections = λ j. k.connections j ∙ h.connections j;
+  counts = record { hear = k.counts.hear ∙ h.counts.hear; say = k.counts.say ∙ h.counts.say; hang = k.counts.hang ∙ h.counts.hang };
+  steady = λ t s. k.steady (still h.keeps.tells t) (h.steady t s);
+}
+
+-- no wait
+not_waited : (a : Line) → Waited a a
+not_waited a = record {
+  keeps = record { tells = refl; count = refl; lent = refl };
+  connections = λ j. refl;
+  counts = record { hear = refl; say = refl; hang = refl };
+  steady = λ t s. s;
+}
+
+-- a wait after the last session
+chain-wait : {settings : Parts} {spare : ℕ} (first was now : Line) (ss : List (Served settings spare)) → Chain first was ss → Waited was now → Chain first now ss
+chain-wait first was now [] h w = waited_then first was now h w
+chain-wait first was now (s ∷ ss) h w = (h.0, chain-wait s.after was now ss h.1 w)
+
+-- one session more
+chain-append : {settings : Parts} {spare : ℕ} (first was : Line) (ss : List (Served settings spare)) (s : Served settings spare) → Chain first was ss → Waited was s.before → Chain first s.after (ss ++ s ∷ [])
+chain-append first was [] s h w = (waited_then first was s.before h w, not_waited s.after)
+chain-append first was (x ∷ ss) s h w = (h.0, chain-append x.after was ss s h.1 w)
+
 -- nothing was served yet
-pub wire_begins : {settings : Parts} {spare : ℕ} (first now : Line) → now.tells ≡ first.tells → now.count ≡ first.count → now.lent ≡ first.lent → now.opened ≡ first.opened → ((k : ℕ) → now.connection k ≡ first.connection k)
-    → WireAfter {settings = settings} {spare = spare} first now []
-wire_begins first now t c l o k = record {
-  tells = t;
-  count = c;
-  lent = l;
+pub wire_begins : {settings : Parts} {spare : ℕ} (first now : Line) → Waited first now → now.opened ≡ first.opened → WireAfter {settings = settings} {spare = spare} first now []
+wire_begins first now w o = record {
+  tells = w.keeps.tells;
+  count = w.keeps.count;
+  lent = w.keeps.lent;
+  chain = w;
   opened = λ _. omega (arith, o);
-  others = λ _ j _. k j;
+  others = λ _ j _. w.connections j;
   served = λ _. tt;
 }
 
 -- nothing of a connection changed
-pub wire_same : {settings : Parts} {spare : ℕ} (first was now : Line) (ss : List (Served settings spare)) → WireAfter first was ss → now.tells ≡ was.tells → now.count ≡ was.count → now.lent ≡ was.lent → (IsTrue was.tells → now.opened ≡ was.opened)
-    → ((k : ℕ) → now.connection k ≡ was.connection k) → WireAfter first now ss
-wire_same {settings} {spare} first was now ss h t c l o k = record {
-  tells = t ∙ h.tells;
-  count = c ∙ h.count;
-  lent = l ∙ h.lent;
+pub wire_same : {settings : Parts} {spare : ℕ} (first was now : Line) (ss : List (Served settings spare)) → WireAfter first was ss → Waited was now → (IsTrue was.tells → now.opened ≡ was.opened) → WireAfter first now ss
+wire_same {settings} {spare} first was now ss h w o = record {
+  tells = w.keeps.tells ∙ h.tells;
+  count = w.keeps.count ∙ h.count;
+  lent = w.keeps.lent ∙ h.lent;
+  chain = chain-wait first was now ss h.chain w;
   opened = λ q. o (still h.tells q) ∙ h.opened q;
-  others = λ q j d. k j ∙ h.others q j d;
-  served = λ q. from-map (IsAt first was) (IsAt first now) first.opened ss (λ j s _ _ a. record { number = a.number; was_open = a.was_open; blank = a.blank; to_hear = a.to_hear; stays = k j ∙ a.stays }) (h.served q);
+  others = λ q j d. w.connections j ∙ h.others q j d;
+  served = λ q. from-map (IsAt first was) (IsAt first now) first.opened ss
+      (λ j s _ _ a. record { number = a.number; was_open = a.was_open; blank = a.blank; to_hear = a.to_hear; stays = w.connections j ∙ a.stays }) (h.served q);
 }
 
 -- the connection that was opened is what it was at first
@@ -76,6 +112,7 @@ wire_more first was ss s h o =
       tells = s.ran.line.tells ∙ (o.keeps.tells ∙ h.tells);
       count = s.ran.line.count ∙ (o.keeps.count ∙ h.count);
       lent = s.ran.line.lent ∙ (o.keeps.lent ∙ h.lent);
+      chain = chain-append first was ss s h.chain (waited_next was s.before (Ok true) o);
       opened = λ t. omega (arith, s.ran.line.opened, at t, length-append ss (s ∷ []));
       others = λ t k d. elim d [
         | inl lt ↦ other t k (λ e. omega (arith, e, lt)) ∙ h.others t k (inl lt)

@@ -19,7 +19,7 @@ use Rattle.station.specs.ReportLine.{longest_line, report_line}
 use Rattle.station.specs.Served.{FileAfter, FitOut, FitShelf, Served, airs, line_for, lines}
 use Rattle.station.specs.Serving.{Around, AtAppendFault, AtDone, AtOutFault, AtWireFault, SendsTo, SoFar}
 use Rattle.station.specs.Sessions.{Closes, Ran, StandsFor}
-use Rattle.station.proofs.Connections.{airs-append, lines-append, well_more, wire_begins, wire_more, wire_same}
+use Rattle.station.proofs.Connections.{airs-append, lines-append, waited_listen, waited_next, well_more, wire_begins, wire_more, wire_same}
 
 -- a session that was served and sent
 abbrev pub made : {T E : Type 0} (settings : Parts) (spare : ℕ) (mid after : Line) (empty pool pool2 : Pool) (desk : Desk) (end : SessionEnd) (f f2 : Files) (name : List ℕ) (r : Result T E)
@@ -74,7 +74,7 @@ pub at_done : {E : Type 0} (settings : Parts) (spare most : ℕ) (first : Around
 at_done settings spare most first w mid f o address name pool ss so few h = record {
   sessions = ss;
   few = few;
-  wire = wire_same first.wire w mid ss so.wire h.keeps.tells h.keeps.count h.keeps.lent (λ t. (h.not_opened t refl).0) h.connections;
+  wire = wire_same first.wire w mid ss so.wire (waited_next w mid (Ok false) h) (λ t. (h.not_opened t refl).0);
   asked = λ t. h.asked ∙ so.asked t;
   well = λ fit. let b = so.well fit in record {
     hear = h.others.hear ∙ b.hear;
@@ -97,7 +97,7 @@ pub at_wire_fault : {E : Type 0} (settings : Parts) (spare most : ℕ) (first : 
 at_wire_fault {E} settings spare most first w mid f o address name pool e ss so few h = record {
   sessions = ss;
   few = few;
-  wire = wire_same first.wire w mid ss so.wire h.keeps.tells h.keeps.count h.keeps.lent (λ t. (h.failed t).0) h.connections;
+  wire = wire_same first.wire w mid ss so.wire (waited_next w mid (Err e) h) (λ t. (h.failed t).0);
   asked = λ t. h.asked ∙ so.asked t;
   unfit = λ fit. no_ok Bool E e (h.steady (still so.wire.tells fit.tells) (so.well fit).steady).0;
   file = so.file;
@@ -270,7 +270,7 @@ pub at_listen : {T E F : Type 0} (settings : Parts) (spare most : ℕ) (w0 w : L
 at_listen {T} {E} {F} settings spare most w0 w f0 f o address name x e fr h = record {
   sessions = [];
   few = omega arith;
-  wire = wire_begins w0 w h.keeps.tells h.keeps.count h.keeps.lent h.opened h.connections;
+  wire = wire_begins w0 w (waited_listen w0 w address (Err e) h) h.opened;
   asked = h.asked;
   unfit = λ fit. no_ok T F e (h.steady fit.tells fit.steady).0;
   file = file_begins f0 f name x fr;
@@ -284,7 +284,7 @@ at_listen {T} {E} {F} settings spare most w0 w f0 f o address name x e fr h = re
 pub begun : {T U E F : Type 0} (settings : Parts) (spare most : ℕ) (w0 w : Line) (f0 f : Files) (o : Written ℕ) (address name : List ℕ) (pool : Pool) (x : T) (y : U) → Freshens {E = E} f0 f name (Ok x) → Listens {E = F} w0 w address (Ok y) → pool.live ≡ [] → pool.spare ≡ spare
     → SoFar {settings = settings} {spare = spare} (record { wire = w0; shelf = f0; out = o }) (record { wire = w; shelf = f; out = o }) address name most pool []
 begun settings spare most w0 w f0 f o address name pool x y fr h none all = record {
-  wire = wire_begins w0 w h.keeps.tells h.keeps.count h.keeps.lent h.opened h.connections;
+  wire = wire_begins w0 w (waited_listen w0 w address (Ok y) h) h.opened;
   asked = h.asked;
   well = λ fit. record { hear = h.others.hear; say = h.others.say; hang = h.others.hang; steady = (h.steady fit.tells fit.steady).1; none_lost = tt };
   file = file_begins f0 f name x fr;

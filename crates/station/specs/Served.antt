@@ -6,7 +6,7 @@ use Rattle.page_pool.specs.Pool.{Pool}
 use Rattle.subscribers.specs.Parts.{Parts}
 use Rattle.tap_terminal.specs.Desk.{Desk}
 use Rattle.wires.specs.Files.{Files, SameAt, longest_name}
-use Rattle.wires.specs.Line.{IsBlank, Line}
+use Rattle.wires.specs.Line.{IsBlank, Keeps, KeepsConnections, KeepsLineAndHang, Line}
 use Rattle.wires.specs.Written.{Written}
 use Rattle.station.specs.declared.session.SessionEnd.{SessionEnd}
 use Rattle.station.specs.declared.session.SessionEnd.TheVariants.{LineLost}
@@ -55,12 +55,26 @@ pub record IsAt {settings : Parts} {spare : ℕ} (first now : Line) (k : ℕ) (s
   pub to_hear : s.before.connection k ≡ first.connection k
   pub stays : now.connection k ≡ s.after.connection k
 
+-- Only waits for a connection lie between: no connection changed, and no count of faults but the gate's. A steady wire is steady.
+pub record Waited (old new : Line) : Type 0 where
+  pub keeps : Keeps old new
+  pub connections : KeepsConnections old new
+  pub counts : KeepsLineAndHang old new
+  pub steady : IsTrue old.tells → IsTrue old.steady → IsTrue new.steady
+
+-- The sessions were served on one wire, one after another: the first where the wire was at first, each further one where the one before
+-- it left the wire, and the last left it as it is now. Between them are only waits.
+abbrev pub Chain : {settings : Parts} {spare : ℕ} → Line → Line → List (Served settings spare) → Type 0
+Chain first now [] = Waited first now
+Chain first now (s ∷ ss) = Waited first s.before × Chain s.after now ss
+
 -- The wire opened the first of the connections that were left, one for each session, and the sessions were served there. All other
 -- connections are as they were.
 pub record WireAfter {settings : Parts} {spare : ℕ} (first now : Line) (sessions : List (Served settings spare)) : Type 0 where
   pub tells : now.tells ≡ first.tells
   pub count : now.count ≡ first.count
   pub lent : now.lent ≡ first.lent
+  pub chain : Chain first now sessions
   pub opened : IsTrue first.tells → now.opened ≡ first.opened + length sessions
   pub others : IsTrue first.tells → (k : ℕ) → (k < first.opened ⊎ first.opened + length sessions ≤ k) → now.connection k ≡ first.connection k
   pub served : IsTrue first.tells → AllFrom (IsAt first now) first.opened sessions
