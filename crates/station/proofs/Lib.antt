@@ -54,3 +54,4 @@ pub mod PutOutcomes
 pub mod CallsUp
 pub mod PagesRead
 pub mod Delivered
+pub mod HeardFronts
