@@ -55,3 +55,4 @@ pub mod CallsUp
 pub mod PagesRead
 pub mod Delivered
 pub mod HeardFronts
+pub mod OneOutcomes

@@ -35,3 +35,4 @@ pub mod Conversations
 pub mod OutcomeLines
 pub mod Calls
 pub mod Delivered
+pub mod OneOutcome

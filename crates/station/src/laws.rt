@@ -7,6 +7,7 @@ ghost use Rattle.station.specs.Delivered.{Delivered};
 ghost use Rattle.station.specs.Joined.{BothEnds};
 ghost use Rattle.station.specs.LoneBlock.{HasText, IsMarkedBlock};
 ghost use Rattle.station.specs.NearAir.{CleanAir, NearAir};
+ghost use Rattle.station.specs.OneOutcome.{OnePlay, OneShow};
 
 /// An input is at most one block, with a right trailer or a wrong one, and a content has at most one text. So the answers of `one`
 /// that speak of its input exclude one another.
@@ -39,4 +40,10 @@ pub fn delivered()
 /// what `near_air` asks of the pages.
 pub fn accepted_pages()
     ensures { AreAcceptable }
+{}
+
+/// Where no call fails, and there is memory, what a command comes to is determined: its status, and what the output holds.
+pub fn one_outcome()
+    ensures play { OnePlay }
+    ensures show { OneShow }
 {}

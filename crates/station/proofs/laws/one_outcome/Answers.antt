@@ -1,0 +1,8 @@
+use Rattle.station.proofs.OneOutcomes.{one_play, one_show}
+use Rattle.station.proofs.laws.one_outcome.Goals as goal
+
+pub returns-clause-play : goal.returns-clause-play
+returns-clause-play c = one_play
+
+pub returns-clause-show : goal.returns-clause-show
+returns-clause-show c = one_show

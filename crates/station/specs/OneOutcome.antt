@@ -1,0 +1,66 @@
+-- Two runs of a command over the same objects, where no call fails, come to the same.
+use Rattle.std.specs.Prelude.{◌≡◌, ◌≢◌, ℕ, ◌*◌, ◌≤◌, Bool, true, List, [], ◌∷◌, length, take, IsTrue}
+use Rattle.air.specs.Air.{IsAir}
+use Rattle.bits.specs.Bits.{bytes_bits}
+use Rattle.tap_block.specs.Chars.{characters}
+use Rattle.wires.specs.Files.{Files}
+use Rattle.wires.specs.Left.{Left}
+use Rattle.wires.specs.Written.{Written}
+use Rattle.station.specs.declared.statuses.Status.{Status}
+use Rattle.station.specs.declared.statuses.Status.TheVariants.{Memory}
+use Rattle.station.specs.AlphaPage.{alpha_page}
+use Rattle.station.specs.Listening.{most_bits}
+use Rattle.station.specs.LoneBlock.{HasText, IsMarkedBlock}
+use Rattle.station.specs.PageLines.{play_lines}
+use Rattle.station.specs.Rows.{Objects, RunsOne, RunsPlay, RunsShow, Streams}
+use Rattle.station.specs.Table.{table_of}
+
+-- Two runs came to the same: the status, and what they made.
+pub record SameOutcome {A : Type 0} (status another : Status) (made again : A) : Type 0 where
+  pub ends_alike : another ≡ status
+  pub makes_alike : again ≡ made
+
+-- The shelf is steady, and the file is there.
+pub record FitFile (name : List ℕ) (shelf : Files) : Type 0 where
+  pub tells : IsTrue shelf.tells
+  pub steady : IsTrue shelf.steady
+  pub there : IsTrue (shelf.there name)
+
+-- The output is steady, and has room for this.
+pub record FitFor (out : Written ℕ) (piece : List ℕ) : Type 0 where
+  pub tells : IsTrue out.tells
+  pub steady : IsTrue out.steady
+  pub room : length piece ≤ out.room
+
+-- the bits of a file that are listened to: those of its first 67,108,864 bytes
+abbrev pub bits_listened : List ℕ → Files → List Bool
+bits_listened name shelf = take most_bits (bytes_bits (shelf.file name))
+
+-- Over a steady shelf that has the file, and a steady output with room for the lines, two runs of `play` that had memory answer the
+-- same, and the output holds the same after both.
+abbrev pub OnePlay : Type 0
+OnePlay = (capcodes air : List ℕ) (old new other : Objects) (status another : Status) → FitFile air old.shelf → FitFor old.streams.out (play_lines capcodes (bits_listened air old.shelf))
+    → RunsPlay capcodes air old new status → RunsPlay capcodes air old other another → status ≢ Memory → another ≢ Memory
+    → SameOutcome status another new.streams.out.held other.streams.out.held
+
+-- the same of `show`, which takes no memory
+abbrev pub OneShow : Type 0
+OneShow = (air : List ℕ) (old new other : Objects) (status another : Status) → FitFile air old.shelf → FitFor old.streams.out (table_of (bits_listened air old.shelf))
+    → RunsShow air old new status → RunsShow air old other another
+    → SameOutcome status another new.streams.out.held other.streams.out.held
+
+-- The input is steady, and the output too, with room for the transmission of the page of the input.
+pub record FitOne (capcode : ℕ) (old : Streams) : Type 0 where
+  pub input_tells : IsTrue old.input.tells
+  pub input_steady : IsTrue old.input.steady
+  pub tells : IsTrue old.out.tells
+  pub steady : IsTrue old.out.steady
+  pub room : (body text : List ℕ) (bits : List Bool) → IsMarkedBlock (characters old.input.left) body true → HasText body text → IsAir (alpha_page capcode text ∷ []) bits
+      → length bits ≤ 8 * old.out.room
+
+-- Over a steady input and a steady output with room, two runs of `one` that had memory answer the same, and the output holds the same
+-- bits after both.
+abbrev pub OneOne : Type 0
+OneOne = (capcode : ℕ) (old new other : Objects) (status another : Status) → FitOne capcode old.streams
+    → RunsOne capcode old new status → RunsOne capcode old other another → status ≢ Memory → another ≢ Memory
+    → SameOutcome status another (bytes_bits new.streams.out.held) (bytes_bits other.streams.out.held)
