@@ -56,3 +56,5 @@ pub mod PagesRead
 pub mod Delivered
 pub mod HeardFronts
 pub mod OneOutcomes
+pub mod OneAir
+pub mod OneOfOne

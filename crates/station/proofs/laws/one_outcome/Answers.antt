@@ -1,3 +1,4 @@
+use Rattle.station.proofs.OneOfOne.{one_one}
 use Rattle.station.proofs.OneOutcomes.{one_play, one_show}
 use Rattle.station.proofs.laws.one_outcome.Goals as goal
 
@@ -6,3 +7,6 @@ returns-clause-play c = one_play
 
 pub returns-clause-show : goal.returns-clause-show
 returns-clause-show c = one_show
+
+pub returns-clause-one : goal.returns-clause-one
+returns-clause-one c = one_one

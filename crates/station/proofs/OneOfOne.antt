@@ -1,0 +1,84 @@
+-- What `one` comes to where no call fails.
+use Rattle.std.proofs.Common.{◌≡◌, ◌≢◌, ℕ, ◌*◌, ◌≤◌, Bool, true, false, List, [], ◌∷◌, ◌++◌, length, IsTrue, refl, sym, ◌∙◌, ap, subst}
+use Rattle.air.specs.Air.{IsAir}
+use Rattle.bits.specs.Bits.{bytes_bits}
+use Rattle.tap_block.specs.Chars.{characters}
+use Rattle.wires.specs.Left.{Left}
+use Rattle.wires.specs.Written.{Written}
+use Rattle.station.specs.declared.statuses.Status.{Status}
+use Rattle.station.specs.declared.statuses.Status.TheVariants.{BadSum, BadText, Done, InputFault, Memory, NotBlock, OutFault}
+use Rattle.station.specs.AlphaPage.{alpha_page}
+use Rattle.station.specs.LoneBlock.{HasText, IsMarkedBlock}
+use Rattle.station.specs.OneOutcome.{FitOne, OneOne, SameOutcome}
+use Rattle.station.specs.Rows.{OneRow, PageSent, ReadBadSum, ReadBadText, ReadBlock, ReadNoBlock, Streams}
+use Rattle.station.specs.Wrote.{Wrote, as_bits}
+use Rattle.station.proofs.OneAir.{one_air}
+use Rattle.station.proofs.OneAnswer.{one_block, one_text}
+
+-- two readings of a block
+same_block : (old new other : Left ℕ) (body body2 : List ℕ) (right marked : Bool) → IsTrue old.tells → ReadBlock old new body right → ReadBlock old other body2 marked → (body2 ≡ body) × (marked ≡ right)
+same_block old new other body body2 right marked t h k = one_block (characters old.left) body body2 right marked (h.block t) (k.block t)
+
+-- no block, and one
+no_and_one : {B : Type 0} (old new other : Left ℕ) (body : List ℕ) (right : Bool) → IsTrue old.tells → ReadNoBlock old new → ReadBlock old other body right → B
+no_and_one old new other body right t h k = let b = k.block t in absurd (h.no_block t body b.trailer b.lone)
+
+-- a trailer that is right and wrong
+right_and_wrong : {B : Type 0} (old new other : Left ℕ) (body body2 : List ℕ) → IsTrue old.tells → ReadBlock old new body true → ReadBlock old other body2 false → B
+right_and_wrong old new other body body2 t h k = let e = (same_block old new other body body2 true false t h k).1 in cc
+
+-- a content with a text and none
+text_and_none : {B : Type 0} (capcode : ℕ) (old new other : Left ℕ) → IsTrue old.tells → PageSent capcode old new → ReadBadText old other → B
+text_and_none capcode old new other t h k =
+    absurd (k.no_text h.text (subst (λ (b : List ℕ). HasText b h.text) (sym (same_block old new other h.body k.body true true t h.read k.read).0) h.has_text))
+
+-- two pages that were sent have the same bits
+same_bits : (capcode : ℕ) (old new other : Left ℕ) → IsTrue old.tells → (h : PageSent capcode old new) (k : PageSent capcode old other) → k.bits ≡ h.bits
+same_bits capcode old new other t h k =
+    let b : k.body ≡ h.body = (same_block old new other h.body k.body true true t h.read k.read).0 in
+    let x : k.text ≡ h.text = one_text h.body h.text k.text h.has_text (subst (λ (z : List ℕ). HasText z k.text) b k.has_text) in
+    one_air (alpha_page capcode h.text ∷ []) h.bits k.bits h.air (subst (λ (z : List ℕ). IsAir (alpha_page capcode z ∷ []) k.bits) x k.air)
+
+-- the output is as it was
+same_out : (status : Status) (old new other : Written ℕ) → new ≡ old → other ≡ old → SameOutcome status status (bytes_bits new.held) (bytes_bits other.held)
+same_out status old new other h k = record { ends_alike = refl; makes_alike = ap (λ (o : Written ℕ). bytes_bits o.held) (k ∙ sym h) }
+
+-- the output had room
+no_fault : {B : Type 0} (capcode : ℕ) (old new : Streams) → FitOne capcode old → OneRow capcode old new OutFault → B
+no_fault capcode old new fit h = absurd (h.1.unfit fit.tells fit.steady (fit.room h.0.body h.0.text h.0.bits (h.0.read.block fit.input_tells) h.0.has_text h.0.air))
+
+pair : (capcode : ℕ) (old new other : Streams) (status another : Status) → FitOne capcode old → OneRow capcode old new status → OneRow capcode old other another → status ≢ Memory → another ≢ Memory
+    → SameOutcome status another (bytes_bits new.out.held) (bytes_bits other.out.held)
+pair c old new other Done Done fit h k some some2 = record {
+  ends_alike = refl;
+  makes_alike = k.1.held fit.tells ∙ (ap (λ (bits : List Bool). bytes_bits old.out.held ++ bits) (same_bits c old.input new.input other.input fit.input_tells h.0 k.0) ∙ sym (h.1.held fit.tells));
+}
+pair c old new other Done NotBlock fit h k some some2 = no_and_one old.input other.input new.input h.0.body true fit.input_tells k.0 h.0.read
+pair c old new other Done BadSum fit h k some some2 = right_and_wrong old.input new.input other.input h.0.body k.0.body fit.input_tells h.0.read k.0.read
+pair c old new other Done BadText fit h k some some2 = text_and_none c old.input new.input other.input fit.input_tells h.0 k.0
+pair c old new other NotBlock Done fit h k some some2 = no_and_one old.input new.input other.input k.0.body true fit.input_tells h.0 k.0.read
+pair c old new other NotBlock NotBlock fit h k some some2 = same_out NotBlock old.out new.out other.out h.1 k.1
+pair c old new other NotBlock BadSum fit h k some some2 = no_and_one old.input new.input other.input k.0.body false fit.input_tells h.0 k.0.read
+pair c old new other NotBlock BadText fit h k some some2 = no_and_one old.input new.input other.input k.0.body true fit.input_tells h.0 k.0.read
+pair c old new other BadSum Done fit h k some some2 = right_and_wrong old.input other.input new.input k.0.body h.0.body fit.input_tells k.0.read h.0.read
+pair c old new other BadSum NotBlock fit h k some some2 = no_and_one old.input other.input new.input h.0.body false fit.input_tells k.0 h.0.read
+pair c old new other BadSum BadSum fit h k some some2 = same_out BadSum old.out new.out other.out h.1 k.1
+pair c old new other BadSum BadText fit h k some some2 = right_and_wrong old.input other.input new.input k.0.body h.0.body fit.input_tells k.0.read h.0.read
+pair c old new other BadText Done fit h k some some2 = text_and_none c old.input other.input new.input fit.input_tells k.0 h.0
+pair c old new other BadText NotBlock fit h k some some2 = no_and_one old.input other.input new.input h.0.body true fit.input_tells k.0 h.0.read
+pair c old new other BadText BadSum fit h k some some2 = right_and_wrong old.input new.input other.input h.0.body k.0.body fit.input_tells h.0.read k.0.read
+pair c old new other BadText BadText fit h k some some2 = same_out BadText old.out new.out other.out h.1 k.1
+pair c old new other InputFault another fit h k some some2 = absurd (h.0.unsteady fit.input_tells fit.input_steady)
+pair c old new other OutFault another fit h k some some2 = no_fault c old new fit h
+pair c old new other Memory another fit h k some some2 = absurd (some refl)
+pair c old new other status InputFault fit h k some some2 = absurd (k.0.unsteady fit.input_tells fit.input_steady)
+pair c old new other status OutFault fit h k some some2 = no_fault c old other fit k
+pair c old new other status Memory fit h k some some2 = absurd (some2 refl)
+pair c old new other Done another fit h k some some2 = elim k [ ]
+pair c old new other NotBlock another fit h k some some2 = elim k [ ]
+pair c old new other BadSum another fit h k some some2 = elim k [ ]
+pair c old new other BadText another fit h k some some2 = elim k [ ]
+pair c old new other status another fit h k some some2 = elim h [ ]
+
+pub one_one : OneOne
+one_one capcode old new other status another fit h k some some2 = pair capcode old.streams new.streams other.streams status another fit h.row k.row some some2
