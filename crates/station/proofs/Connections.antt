@@ -94,7 +94,7 @@ wire_same {settings} {spare} first was now ss h w o = record {
   opened = λ q. o (still h.tells q) ∙ h.opened q;
   others = λ q j d. w.connections j ∙ h.others q j d;
   served = λ q. from-map (IsAt first was) (IsAt first now) first.opened ss
-      (λ j s _ _ a. record { number = a.number; was_open = a.was_open; blank = a.blank; to_hear = a.to_hear; stays = w.connections j ∙ a.stays }) (h.served q);
+      (λ j s _ _ a. record { within = a.within; number = a.number; was_open = a.was_open; blank = a.blank; to_hear = a.to_hear; stays = w.connections j ∙ a.stays }) (h.served q);
 }
 
 -- the connection that was opened is what it was at first
@@ -119,8 +119,9 @@ wire_more first was ss s h o =
         | inr le ↦ other t k (λ e. omega (arith, e, le, length-append ss (s ∷ []))) ∙ h.others t k (inr (omega (arith, le, length-append ss (s ∷ []))))
       ];
       served = λ t. from-append (IsAt first s.after) first.opened ss s
-          (from-map (IsAt first was) (IsAt first s.after) first.opened ss (λ k x ge lt a. record { number = a.number; was_open = a.was_open; blank = a.blank; to_hear = a.to_hear; stays = other t k (λ e. omega (arith, e, lt)) ∙ a.stays }) (h.served t))
+          (from-map (IsAt first was) (IsAt first s.after) first.opened ss (λ k x ge lt a. record { within = a.within; number = a.number; was_open = a.was_open; blank = a.blank; to_hear = a.to_hear; stays = other t k (λ e. omega (arith, e, lt)) ∙ a.stays }) (h.served t))
           (record {
+            within = omega (arith, (o.opened (still h.tells t) refl).0, h.opened t, h.count);
             number = at t;
             was_open = (o.opened (still h.tells t) refl).2;
             blank = subst (λ (n : ℕ). IsBlank (s.before.connection n)) (h.opened t) (Opens-blank was s.before (still h.tells t) o);

@@ -46,9 +46,10 @@ abbrev pub AllFrom : {A : Type 0} → (ℕ → A → Type 0) → ℕ → List A 
 AllFrom P number [] = Unit {0}
 AllFrom P number (x ∷ xs) = P number x × AllFrom P (number + 1) xs
 
--- The session was served on the connection of this number, which was open and blank, and what was to be heard there was what it had
--- at first. What came of it stays.
+-- The session was served on the connection of this number, which is one of the wire's. It was open and blank, and what was to be heard
+-- there was what it had at first. What came of it stays.
 pub record IsAt {settings : Parts} {spare : ℕ} (first now : Line) (k : ℕ) (s : Served settings spare) : Type 0 where
+  pub within : k < first.count
   pub number : s.before.opened ≡ k + 1
   pub was_open : IsTrue s.before.is_open
   pub blank : IsBlank (s.before.connection k)
