@@ -58,3 +58,4 @@ pub mod HeardFronts
 pub mod OneOutcomes
 pub mod OneAir
 pub mod OneOfOne
+pub mod OneTalks

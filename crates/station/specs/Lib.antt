@@ -36,3 +36,4 @@ pub mod OutcomeLines
 pub mod Calls
 pub mod Delivered
 pub mod OneOutcome
+pub mod OneStation

@@ -1,0 +1,40 @@
+-- Two runs of `station` over the same objects, where no call fails, come to the same.
+use Rattle.std.specs.Prelude.{◌≡◌, ◌≢◌, ℕ, ◌-◌, ◌^◌, ◌<◌, List, Ok, IsTrue}
+use Rattle.bits.specs.Bits.{bytes_bits}
+use Rattle.subscribers.specs.Parts.{Parts}
+use Rattle.subscribers.specs.Settings.{settings_of}
+use Rattle.station.specs.declared.outcomes.Outcome.{Outcome}
+use Rattle.station.specs.declared.outcomes.Outcome.TheVariants.{Ended}
+use Rattle.station.specs.declared.statuses.Status.TheVariants.{Memory}
+use Rattle.station.specs.Rows.{Objects, RunsStation, around}
+use Rattle.station.specs.Served.{FitOut, FitShelf, FitWire}
+use Rattle.station.specs.Serving.{Around}
+
+-- the last value of a count of faults
+abbrev pub last_count : ℕ
+last_count = 2 ^ 64 - 1
+
+-- The shelf is steady and has the settings file. Where the file gives settings, wire, shelf and output are fit for serving by them,
+-- and the counts of line faults aren't at their last value.
+pub record FitStation (settings air : List ℕ) (count : ℕ) (old : Around) : Type 0 where
+  pub tells : IsTrue old.shelf.tells
+  pub steady : IsTrue old.shelf.steady
+  pub there : IsTrue (old.shelf.there settings)
+  pub wire : (parts : Parts) → settings_of (old.shelf.file settings) ≡ Ok parts → FitWire parts parts.cells old.wire
+  pub shelf : (parts : Parts) → settings_of (old.shelf.file settings) ≡ Ok parts → FitShelf parts parts.cells old.wire old.shelf air count
+  pub out : FitOut old.out count
+  pub hear : old.wire.hear < last_count
+  pub say : old.wire.say < last_count
+
+-- What was said on each connection, the bits of the file of the air, and what the output holds are the same. What was read at a time,
+-- and how far a connection was read beyond the end of its session, may differ.
+pub record SameServing (air : List ℕ) (new other : Around) : Type 0 where
+  pub said : (k : ℕ) → (other.wire.connection k).said ≡ (new.wire.connection k).said
+  pub sent : bytes_bits (other.shelf.file air) ≡ bytes_bits (new.shelf.file air)
+  pub held : other.out.held ≡ new.out.held
+
+-- Over fit objects two runs of `station` that had memory come to the same.
+abbrev pub OneStation : Type 0
+OneStation = (address settings air : List ℕ) (count : ℕ) (old new other : Objects) (outcome another : Outcome) → FitStation settings air count (around old)
+    → RunsStation address settings air count old new outcome → RunsStation address settings air count old other another → outcome ≢ Ended Memory → another ≢ Ended Memory
+    → (another ≡ outcome) × SameServing air (around new) (around other)
