@@ -59,3 +59,5 @@ pub mod OneOutcomes
 pub mod OneAir
 pub mod OneOfOne
 pub mod OneTalks
+pub mod OneServings
+pub mod OneStations

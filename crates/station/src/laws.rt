@@ -8,6 +8,7 @@ ghost use Rattle.station.specs.Joined.{BothEnds};
 ghost use Rattle.station.specs.LoneBlock.{HasText, IsMarkedBlock};
 ghost use Rattle.station.specs.NearAir.{CleanAir, NearAir};
 ghost use Rattle.station.specs.OneOutcome.{OneOne, OnePlay, OneShow};
+ghost use Rattle.station.specs.OneStation.{OneStation};
 
 /// An input is at most one block, with a right trailer or a wrong one, and a content has at most one text. So the answers of `one`
 /// that speak of its input exclude one another.
@@ -47,4 +48,5 @@ pub fn one_outcome()
     ensures play { OnePlay }
     ensures show { OneShow }
     ensures one { OneOne }
+    ensures station { OneStation }
 {}

@@ -1,5 +1,6 @@
 use Rattle.station.proofs.OneOfOne.{one_one}
 use Rattle.station.proofs.OneOutcomes.{one_play, one_show}
+use Rattle.station.proofs.OneStations.{one_station}
 use Rattle.station.proofs.laws.one_outcome.Goals as goal
 
 pub returns-clause-play : goal.returns-clause-play
@@ -10,3 +11,6 @@ returns-clause-show c = one_show
 
 pub returns-clause-one : goal.returns-clause-one
 returns-clause-one c = one_one
+
+pub returns-clause-station : goal.returns-clause-station
+returns-clause-station c = one_station

@@ -1,0 +1,138 @@
+-- What `station` comes to where no call fails.
+use Rattle.std.proofs.Common.{◌≡◌, ◌≢◌, ℕ, ◌*◌, ◌≤◌, ◌⊎◌, inl, inr, Bool, List, [], ◌∷◌, length, Result, Ok, Err, IsTrue, refl, sym, ◌∙◌, ap, subst, arith}
+use Rattle.bits.specs.Bits.{bytes_bits}
+use Rattle.subscribers.specs.Parts.{Parts}
+use Rattle.subscribers.specs.Settings.{settings_of}
+use Rattle.subscribers.specs.declared.faults.SettingsFault.{SettingsFault}
+use Rattle.wires.proofs.Written.{still}
+use Rattle.wires.specs.Files.{Files, all_files, longest_name}
+use Rattle.wires.specs.Held.{OtherFiles}
+use Rattle.wires.specs.Line.{Line}
+use Rattle.wires.specs.Written.{Written}
+use Rattle.station.specs.declared.outcomes.Outcome.{Outcome}
+use Rattle.station.specs.declared.outcomes.Outcome.TheVariants.{Ended, Misread, Refused}
+use Rattle.station.specs.declared.statuses.Status.{Status}
+use Rattle.station.specs.declared.statuses.Status.TheVariants.{Done, FileFault, Memory, OutFault, WireFault}
+use Rattle.station.specs.OneStation.{FitStation, OneStation, SameServing}
+use Rattle.station.specs.ReadFile.{ReadSettings, Unharmed}
+use Rattle.station.specs.Rows.{Objects, around}
+use Rattle.station.specs.Served.{FitOut, FitShelf, FitWire, airs}
+use Rattle.station.specs.Serving.{Around, AtDone, HasServed}
+use Rattle.station.specs.StationRows.{ServedBy, StationRow, with_shelf}
+use Rattle.station.proofs.OneServings.{done_alike}
+
+-- a shelf of which a file was read is as fit
+fit_after : (settings : Parts) (spare most : ℕ) (wire : Line) (old now : Files) (name file : List ℕ) → IsTrue old.tells → IsTrue old.steady → IsTrue (old.there name) → Unharmed name old now
+    → FitShelf settings spare wire old file most → FitShelf settings spare wire now file most
+fit_after settings spare most wire old now name file t s there h fit =
+    let back : all_files old ≡ all_files now = sym h.kept.files in
+    record {
+      tells = still h.kept.tells t;
+      steady = h.steady t s there;
+      proper = subst (λ (x : OtherFiles). IsTrue (x.there file) ⊎ (IsTrue x.further × (length file ≤ longest_name))) back fit.proper;
+      told = fit.told;
+      fits = λ line sessions after few. subst (λ (x : OtherFiles). length (airs sessions) ≤ 8 * x.fresh_room) back (fit.fits line sessions after few);
+    }
+
+-- over fit objects serving comes to Done
+serves : (settings : Parts) (spare most : ℕ) (old new : Around) (address name : List ℕ) (status : Status) → FitWire settings spare old.wire → FitShelf settings spare old.wire old.shelf name most → FitOut old.out most
+    → HasServed settings spare old new address name most status → (status ≡ Done) × AtDone settings spare old new address name most
+serves settings spare most old new address name Done wire shelf out h = (refl, h)
+serves settings spare most old new address name WireFault wire shelf out h = absurd (h.unfit wire)
+serves settings spare most old new address name FileFault wire shelf out (inl h) = absurd (h.unfit shelf)
+serves settings spare most old new address name FileFault wire shelf out (inr h) = absurd (h.unfit shelf)
+serves settings spare most old new address name OutFault wire shelf out h = absurd (h.unfit out)
+serves settings spare most old new address name other wire shelf out h = elim h [ ]
+
+-- The settings were read, and all was served by them.
+pub record IsServed (settings address air : List ℕ) (count : ℕ) (old new : Around) (outcome : Outcome) : Type 0 where
+  pub parts : Parts
+  pub shelf : Files
+  pub tells : IsTrue shelf.tells
+  pub settings_are : settings_of (old.shelf.file settings) ≡ Ok parts
+  pub done : AtDone parts parts.cells (with_shelf old shelf) new address air count
+  pub outcome_is : outcome ≡ Ended Done
+
+-- The settings are refused, and nothing was touched.
+pub record IsRefused (settings air : List ℕ) (old new : Around) (outcome : Outcome) : Type 0 where
+  pub fault : SettingsFault
+  pub settings_are : settings_of (old.shelf.file settings) ≡ Err fault
+  pub wire : new.wire ≡ old.wire
+  pub out : new.out ≡ old.out
+  pub file : new.shelf.file air ≡ old.shelf.file air
+  pub outcome_is : outcome ≡ Refused fault
+
+is_served : (settings address air : List ℕ) (count : ℕ) (old new : Around) (status : Status) → FitStation settings air count old → ServedBy address settings air count old new status
+    → IsServed settings address air count old new (Ended status)
+is_served settings address air count old new status fit h =
+    let are = h.read.settings_are fit.tells in
+    let s = serves h.parts h.parts.cells count (with_shelf old h.shelf) new address air status (fit.wire h.parts are)
+    (fit_after h.parts h.parts.cells count old.wire old.shelf h.shelf settings air fit.tells fit.steady fit.there h.read.unharmed (fit.shelf h.parts are)) fit.out h.served in
+    record {
+      parts = h.parts;
+      shelf = h.shelf;
+      tells = still h.read.unharmed.kept.tells fit.tells;
+      settings_are = are;
+      done = s.1;
+      outcome_is = ap (λ (x : Status). Ended x) s.0;
+    }
+
+-- what a row comes to
+view : (settings address air : List ℕ) (count : ℕ) (old new : Around) (outcome : Outcome) → FitStation settings air count old → outcome ≢ Ended Memory → StationRow address settings air count old new outcome
+    → IsServed settings address air count old new outcome ⊎ IsRefused settings air old new outcome
+view settings address air count old new (Refused fault) fit some h = inr (record {
+  fault = fault;
+  settings_are = h.0.refused fit.tells;
+  wire = h.1.wire;
+  out = h.1.out;
+  file = ap (λ (x : OtherFiles). x.file air) h.0.unharmed.kept.files;
+  outcome_is = refl;
+})
+view settings address air count old new (Misread fault) fit some h = elim h [ ]
+view settings address air count old new (Ended Memory) fit some h = absurd (some refl)
+view settings address air count old new (Ended FileFault) fit some (inl h) = absurd (h.0.unsteady fit.tells fit.steady fit.there)
+view settings address air count old new (Ended FileFault) fit some (inr h) = inl (is_served settings address air count old new FileFault fit h)
+view settings address air count old new (Ended status) fit some h = inl (is_served settings address air count old new status fit h)
+
+one_ok : (x : Result Parts SettingsFault) (a b : Parts) → x ≡ Ok a → x ≡ Ok b → b ≡ a
+one_ok x a b h k = cc
+
+one_err : (x : Result Parts SettingsFault) (a b : SettingsFault) → x ≡ Err a → x ≡ Err b → b ≡ a
+one_err x a b h k = cc
+
+ok_and_err : {B : Type 0} (x : Result Parts SettingsFault) (a : Parts) (b : SettingsFault) → x ≡ Ok a → x ≡ Err b → B
+ok_and_err x a b h k = cc
+
+-- two that were served
+both_served : (settings address air : List ℕ) (count : ℕ) (old new other : Around) (outcome another : Outcome) → FitStation settings air count old → IsServed settings address air count old new outcome
+    → IsServed settings address air count old other another → (another ≡ outcome) × SameServing air new other
+both_served settings address air count old new other outcome another fit h k =
+    let same : k.parts ≡ h.parts = one_ok (settings_of (old.shelf.file settings)) h.parts k.parts h.settings_are k.settings_are in
+    let done : AtDone h.parts h.parts.cells (with_shelf old k.shelf) other address air count = subst (λ (p : Parts). AtDone p p.cells (with_shelf old k.shelf) other address air count) same k.done in (
+      k.outcome_is ∙ sym h.outcome_is,
+      done_alike h.parts h.parts.cells count old.wire h.shelf k.shelf old.out new other address air (fit.wire h.parts h.settings_are) fit.hear fit.say h.tells k.tells (fit.out).tells h.done done,
+    )
+
+-- two that are refused
+both_refused : (settings air : List ℕ) (old new other : Around) (outcome another : Outcome) → IsRefused settings air old new outcome → IsRefused settings air old other another → (another ≡ outcome) × SameServing air new other
+both_refused settings air old new other outcome another h k = (
+  k.outcome_is ∙ (ap (λ (x : SettingsFault). Refused x) (one_err (settings_of (old.shelf.file settings)) h.fault k.fault h.settings_are k.settings_are) ∙ sym h.outcome_is),
+  record {
+    said = λ j. ap (λ (w : Line). (w.connection j).said) (k.wire ∙ sym h.wire);
+    sent = ap bytes_bits (k.file ∙ sym h.file);
+    held = ap (λ (o : Written ℕ). o.held) (k.out ∙ sym h.out);
+  },
+)
+
+pub one_station : OneStation
+one_station address settings air count old new other outcome another fit h k some some2 =
+    elim (view settings address air count (around old) (around new) outcome fit some h.row) [
+      | inl served ↦ elim (view settings address air count (around old) (around other) another fit some2 k.row) [
+        | inl served2 ↦ both_served settings address air count (around old) (around new) (around other) outcome another fit served served2
+        | inr refused2 ↦ ok_and_err (settings_of (old.shelf.file settings)) served.parts refused2.fault served.settings_are refused2.settings_are
+      ]
+      | inr refused ↦ elim (view settings address air count (around old) (around other) another fit some2 k.row) [
+        | inl served2 ↦ ok_and_err (settings_of (old.shelf.file settings)) served2.parts refused.fault served2.settings_are refused.settings_are
+        | inr refused2 ↦ both_refused settings air (around old) (around new) (around other) outcome another refused refused2
+      ]
+    ]
