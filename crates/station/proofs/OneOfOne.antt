@@ -1,5 +1,5 @@
 -- What `one` comes to where no call fails.
-use Rattle.std.proofs.Common.{◌≡◌, ◌≢◌, ℕ, ◌*◌, ◌≤◌, Bool, true, false, List, [], ◌∷◌, ◌++◌, length, IsTrue, refl, sym, ◌∙◌, ap, subst}
+use Rattle.std.proofs.Common.{◌≡◌, ◌≢◌, ℕ, Bool, true, false, List, [], ◌∷◌, ◌++◌, IsTrue, refl, sym, ◌∙◌, ap, subst}
 use Rattle.air.specs.Air.{IsAir}
 use Rattle.bits.specs.Bits.{bytes_bits}
 use Rattle.tap_block.specs.Chars.{characters}
@@ -8,10 +8,9 @@ use Rattle.wires.specs.Written.{Written}
 use Rattle.station.specs.declared.statuses.Status.{Status}
 use Rattle.station.specs.declared.statuses.Status.TheVariants.{BadSum, BadText, Done, InputFault, Memory, NotBlock, OutFault}
 use Rattle.station.specs.AlphaPage.{alpha_page}
-use Rattle.station.specs.LoneBlock.{HasText, IsMarkedBlock}
+use Rattle.station.specs.LoneBlock.{HasText}
 use Rattle.station.specs.OneOutcome.{FitOne, OneOne, SameOutcome}
-use Rattle.station.specs.Rows.{OneRow, PageSent, ReadBadSum, ReadBadText, ReadBlock, ReadNoBlock, Streams}
-use Rattle.station.specs.Wrote.{Wrote, as_bits}
+use Rattle.station.specs.Rows.{OneRow, PageSent, ReadBadText, ReadBlock, ReadNoBlock, Streams}
 use Rattle.station.proofs.OneAir.{one_air}
 use Rattle.station.proofs.OneAnswer.{one_block, one_text}
 

@@ -1,6 +1,6 @@
 -- What `play` and `show` come to where no call fails.
-use Rattle.std.proofs.Common.{◌≡◌, ◌≢◌, ℕ, ◌+◌, ◌-◌, ◌*◌, ◌<◌, ◌≤◌, Bool, true, false, List, [], ◌∷◌, ◌++◌, append-nil, append_assoc, length, length-append, take, IsTrue, refl, sym, ◌∙◌, ap, subst, arith}
-use Rattle.std.specs.Prelude.{◌&&◌, if◌then◌else◌, nat_le}
+use Rattle.std.proofs.Common.{◌≡◌, ◌≢◌, ℕ, ◌+◌, ◌-◌, ◌<◌, ◌≤◌, Bool, List, [], ◌∷◌, ◌++◌, append-nil, append_assoc, length, length-append, take, IsTrue, refl, sym, ◌∙◌, ap, arith}
+use Rattle.std.specs.Prelude.{if◌then◌else◌, nat_le}
 use Rattle.std.proofs.lemmas.Bool.{le-leb, lt-leb}
 use Rattle.std.proofs.lemmas.List.{take_all}
 use Rattle.std.proofs.Math.Seq.{take-append_seam, take-append-add}
@@ -16,7 +16,6 @@ use Rattle.station.specs.Listening.{Listens, most_bits}
 use Rattle.station.specs.OneOutcome.{FitFile, FitFor, OnePlay, OneShow, SameOutcome, bits_listened}
 use Rattle.station.specs.PageLines.{play_lines}
 use Rattle.station.specs.Table.{table_of}
-use Rattle.station.specs.Talk.{IsFront}
 use Rattle.station.proofs.HeardFronts.{Grows, play_lines-grow, table_of-grow}
 
 -- the status, where so many bits are to be listened to

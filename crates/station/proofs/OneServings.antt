@@ -1,11 +1,8 @@
 -- What serving comes to where no call fails.
-use Rattle.std.proofs.Common.{◌≡◌, ◌≢◌, ℕ, ◌+◌, ◌-◌, ◌*◌, ◌<◌, ◌≤◌, ◌⊎◌, inl, inr, suc, Bool, List, [], ◌∷◌, ◌++◌, append_assoc, length, length-append, IsTrue, refl, sym, ◌∙◌, ap, ap₂, subst, arith}
-use Rattle.std.specs.Prelude.{min, ◌^◌}
+use Rattle.std.proofs.Common.{◌≡◌, ℕ, ◌+◌, ◌-◌, ◌<◌, ◌≤◌, ◌⊎◌, inl, inr, suc, Bool, List, [], ◌∷◌, ◌++◌, append_assoc, length, IsTrue, refl, sym, ◌∙◌, ap, ap₂, subst, arith}
 use Rattle.std.proofs.lemmas.Bool.{cases_lt}
 use Rattle.air.specs.Air.{IsAir}
-use Rattle.bits.specs.Bits.{bytes_bits}
 use Rattle.subscribers.specs.Parts.{Parts}
-use Rattle.tap_terminal.specs.declared.answers.Answer.{Answer}
 use Rattle.tap_terminal.specs.Session.{Session}
 use Rattle.wires.proofs.Written.{still}
 use Rattle.wires.specs.Files.{Files}
@@ -15,12 +12,12 @@ use Rattle.wires.specs.Written.{Written}
 use Rattle.station.specs.declared.session.SessionEnd.{SessionEnd}
 use Rattle.station.specs.OneStation.{SameServing, last_count}
 use Rattle.station.specs.ReportLine.{report_line}
-use Rattle.station.specs.Served.{AllFrom, Chain, FitOut, FitWire, IsAt, Served, airs, line_for, lines}
+use Rattle.station.specs.Served.{AllFrom, Chain, FitWire, IsAt, Served, airs, line_for, lines}
 use Rattle.station.specs.Serving.{Around, AtDone}
-use Rattle.station.specs.Sessions.{Fits, IsDeaf, IsMute, IsSilent, IsTold, SessionOf, Stop, Stops, deaf, mute, silent, told}
+use Rattle.station.specs.Sessions.{Fits, SessionOf, Stop, Stops, deaf, mute, silent, told}
 use Rattle.station.specs.Talk.{IsFront, here}
 use Rattle.station.proofs.OneAir.{one_air}
-use Rattle.station.proofs.OneTalks.{Comes, SameSession, same_session}
+use Rattle.station.proofs.OneTalks.{Comes, same_session}
 
 -- a session in which no hear and no say failed
 comes_of : (settings : Parts) (spare : ℕ) (old new : Line) (c : Connection) (heard fed said : List ℕ) (session : Session) (end : SessionEnd) (stop : Stop)

@@ -1,5 +1,5 @@
 -- What `station` comes to where no call fails.
-use Rattle.std.proofs.Common.{◌≡◌, ◌≢◌, ℕ, ◌*◌, ◌≤◌, ◌⊎◌, inl, inr, Bool, List, [], ◌∷◌, length, Result, Ok, Err, IsTrue, refl, sym, ◌∙◌, ap, subst, arith}
+use Rattle.std.proofs.Common.{◌≡◌, ◌≢◌, ℕ, ◌*◌, ◌≤◌, ◌⊎◌, inl, inr, List, length, Result, Ok, Err, IsTrue, refl, sym, ◌∙◌, ap, subst}
 use Rattle.bits.specs.Bits.{bytes_bits}
 use Rattle.subscribers.specs.Parts.{Parts}
 use Rattle.subscribers.specs.Settings.{settings_of}
@@ -14,8 +14,8 @@ use Rattle.station.specs.declared.outcomes.Outcome.TheVariants.{Ended, Misread, 
 use Rattle.station.specs.declared.statuses.Status.{Status}
 use Rattle.station.specs.declared.statuses.Status.TheVariants.{Done, FileFault, Memory, OutFault, WireFault}
 use Rattle.station.specs.OneStation.{FitStation, OneStation, SameServing}
-use Rattle.station.specs.ReadFile.{ReadSettings, Unharmed}
-use Rattle.station.specs.Rows.{Objects, around}
+use Rattle.station.specs.ReadFile.{Unharmed}
+use Rattle.station.specs.Rows.{around}
 use Rattle.station.specs.Served.{FitOut, FitShelf, FitWire, airs}
 use Rattle.station.specs.Serving.{Around, AtDone, HasServed}
 use Rattle.station.specs.StationRows.{ServedBy, StationRow, with_shelf}

@@ -1,6 +1,6 @@
 -- What a session comes to where no hear and no say fails.
-use Rattle.std.proofs.Common.{◌≡◌, ◌≢◌, ℕ, ◌+◌, ◌-◌, ◌<◌, ◌≤◌, ◌⊎◌, inl, inr, Bool, true, false, List, [], ◌∷◌, ◌++◌, append-nil, append_assoc, length, length-append, Option, Some, None, IsTrue, refl, sym, ◌∙◌, ap, ap₂, subst, arith}
-use Rattle.std.specs.Prelude.{◌||◌, map}
+use Rattle.std.proofs.Common.{◌≡◌, ℕ, ◌⊎◌, inl, inr, Bool, true, false, List, [], ◌∷◌, ◌++◌, IsTrue, refl, sym, ◌∙◌, ap, ap₂, subst}
+use Rattle.std.specs.Prelude.{◌||◌}
 use Rattle.std.proofs.lemmas.List.{map-append}
 use Rattle.std.proofs.lemmas.List.Folds.{list_any-append}
 use Rattle.subscribers.specs.Parts.{Parts}
@@ -15,7 +15,7 @@ use Rattle.station.specs.declared.session.SessionEnd.{SessionEnd}
 use Rattle.station.specs.declared.session.SessionEnd.TheVariants.{HungUp}
 use Rattle.station.specs.Sessions.{IsAnsweredLast, SessionOf, decided, has_end}
 use Rattle.station.specs.Talk.{IsFront}
-use Rattle.station.proofs.Lists.{front_append, front_same, front_then}
+use Rattle.station.proofs.Lists.{front_append}
 
 -- ---- fronts of one list
 

@@ -4,7 +4,6 @@ use Rattle.air.specs.Air.{IsAir}
 use Rattle.bits.specs.Bits.{bytes_bits}
 use Rattle.tap_block.specs.Chars.{characters}
 use Rattle.wires.specs.Files.{Files}
-use Rattle.wires.specs.Left.{Left}
 use Rattle.wires.specs.Written.{Written}
 use Rattle.station.specs.declared.statuses.Status.{Status}
 use Rattle.station.specs.declared.statuses.Status.TheVariants.{Memory}
