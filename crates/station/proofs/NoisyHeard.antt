@@ -116,6 +116,14 @@ through_goes_on printed bits left before after old now next o0 o1 o2 bit flip x 
       (Wrote-then o0 o1 o2 (printed (noisy_bits h.heard h.noise)) p.piece x h.wrote p.put);
 }
 
+-- the bits of the noise so far are its first, and all that count
+noise_of_all : (ended : Bool) (now : Left Bool) (bits noise : List Bool) → NoiseSoFar ended now bits noise → IsTrue now.tells → noisy_bits bits noise ≡ noisy_bits bits (noise ++ now.left)
+noise_of_all false now bits noise h t = sym (noisy-longer bits noise now.left (omega (arith, h)))
+noise_of_all true now bits noise h t = ap (noisy_bits bits) (sym (append-nil noise) ∙ ap (λ (xs : List Bool). noise ++ xs) (sym (h.1 t)))
+
+noise_so_far : (ended : Bool) (old now : Left Bool) (bits noise : List Bool) → Took old now noise → NoiseSoFar ended now bits noise → IsTrue old.tells → noisy_bits bits noise ≡ noisy_bits bits old.left
+noise_so_far ended old now bits noise took h t = noise_of_all ended now bits noise h (still took.tells t) ∙ ap (noisy_bits bits) (sym (took.left t))
+
 -- a write failed
 pub through_unprinted : {T F : Type 0} (printed : List Bool → List ℕ) (bits left : List Bool) (before after : Bool) (old now next : Left Bool) (o0 o1 o2 : Written ℕ) (bit flip : Bool) (e : F)
     → (h : ListeningThrough printed bits (bit ∷ left) before old now o0 o1) → NoiseGives {E = Failed} before after now next (Ok flip)
@@ -127,6 +135,8 @@ through_unprinted printed bits left before after old now next o0 o1 o2 bit flip 
   bits_are = h.bits_are ∙ sym (append_assoc h.heard (bit ∷ []) left);
   noise = noise_after before after h.noise flip;
   took = took_after before after old now next h.noise flip h.took g;
+  of_noise = noise_so_far after old next (h.heard ++ bit ∷ []) (noise_after before after h.noise flip) (took_after before after old now next h.noise flip h.took g)
+      (so_far_after before after now next h.heard h.noise bit flip h.so_far g (gives_tells before after now next flip g));
   there = λ t some. there_after before after old now next h.heard h.noise flip h.took h.so_far h.there g t;
   wrote = subst (λ (piece : List ℕ). WroteFront o0 o2 piece) (sym (ap printed (noisy-after before after now next h.heard h.noise bit flip h.so_far g) ∙ p.more))
       (WroteFront-then o0 o1 o2 (printed (noisy_bits h.heard h.noise)) p.piece e h.wrote p.put);
@@ -153,15 +163,12 @@ through_failed printed bits left before after old now next o0 o e h g =
         faults = subst (λ (k : ℕ). Rose k next.faults) h.took.faults f.faults;
         lent = f.lent ∙ h.took.lent;
       };
+      of_noise = noise_so_far before old now h.heard h.noise h.took h.so_far;
       there = λ t some. h.there t (some_long h.heard some);
       wrote = h.wrote;
     }
 
 -- all was heard
-noise_of_all : (ended : Bool) (now : Left Bool) (bits noise : List Bool) → NoiseSoFar ended now bits noise → IsTrue now.tells → noisy_bits bits noise ≡ noisy_bits bits (noise ++ now.left)
-noise_of_all false now bits noise h t = sym (noisy-longer bits noise now.left (omega (arith, h)))
-noise_of_all true now bits noise h t = ap (noisy_bits bits) (sym (append-nil noise) ∙ ap (λ (xs : List Bool). noise ++ xs) (sym (h.1 t)))
-
 pub through_all : (printed : List Bool → List ℕ) (bits left : List Bool) (ended : Bool) (old now : Left Bool) (o0 o : Written ℕ) → left ≡ []
     → (h : ListeningThrough printed bits left ended old now o0 o) → HeardThrough printed bits old now o0 o
 through_all printed bits left ended old now o0 o none h =
@@ -169,8 +176,7 @@ through_all printed bits left ended old now o0 o none h =
     record {
       noise = h.noise;
       took = h.took;
-      of_all = λ t. noise_of_all ended now bits h.noise (subst (λ (xs : List Bool). NoiseSoFar ended now xs h.noise) all h.so_far) (still h.took.tells t)
-          ∙ ap (noisy_bits bits) (sym (h.took.left t));
+      of_all = noise_so_far ended old now bits h.noise h.took (subst (λ (xs : List Bool). NoiseSoFar ended now xs h.noise) all h.so_far);
       there = λ t some. h.there t (subst (λ (xs : List Bool). 0 < length xs) (sym all) (some_long bits some));
       wrote = subst (λ (xs : List Bool). Wrote o0 o (printed (noisy_bits xs h.noise))) all h.wrote;
     }

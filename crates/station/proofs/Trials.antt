@@ -26,7 +26,7 @@ use Rattle.station.proofs.Listens.{Puts-from_wrote, Wrote-then, WroteFront-then}
 use Rattle.station.proofs.NoisyHeard.{through_all, through_begins}
 
 -- each list of pages has a transmission
-air_of : (accepted : List Page) → (air : List Bool) × IsAir accepted air
+pub air_of : (accepted : List Page) → (air : List Bool) × IsAir accepted air
 air_of [] = ([], refl)
 air_of (page ∷ accepted) =
     let s = one_schedule (page ∷ accepted) (λ e. cc) in
@@ -95,6 +95,7 @@ tries_between settings spare printed i0 i before after n o0 o1 o2 piece e silent
       air_is = refl;
       flips = [];
       took_flips = Took-nothing n;
+      of_noise = λ t. refl;
       there = λ t some. absurd (some refl);
       wrote = subst (λ (z : List ℕ). WroteFront o0 o2 z)
           (ap (λ (z : List ℕ). answer_lines h.session.answers ++ z) is ∙ (sym (append-nil (answer_lines h.session.answers ++ codes "---\n"))
@@ -127,6 +128,7 @@ tries_heard settings spare printed i0 i before after n0 n o0 o1 o2 o3 piece x st
       air_is = p.bits_are;
       flips = p.noise;
       failed = p.failed;
+      of_noise = p.of_noise;
       there = p.there;
       wrote = wrote_more o0 o2 o3 (answer_lines h.session.answers ++ codes "---\n") (printed (noisy_bits p.heard p.noise)) between p.wrote;
     }
@@ -137,6 +139,7 @@ tries_heard settings spare printed i0 i before after n0 n o0 o1 o2 o3 piece x st
       air_is = p.bits_are;
       flips = p.noise;
       took_flips = p.took;
+      of_noise = p.of_noise;
       there = p.there;
       wrote = front_more o0 o2 o3 (answer_lines h.session.answers ++ codes "---\n") (printed (noisy_bits p.heard p.noise)) between p.wrote;
     })

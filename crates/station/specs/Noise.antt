@@ -33,6 +33,7 @@ pub record NoiseFailed (printed : List Bool → List ℕ) (bits : List Bool) (ol
   pub bits_are : bits ≡ heard ++ rest
   pub noise : List Bool
   pub failed : FailedAfter old new noise
+  pub of_noise : IsTrue old.tells → noisy_bits heard noise ≡ noisy_bits heard old.left
   pub there : IsTrue old.tells → heard ≢ [] → IsTrue old.there
   pub wrote : Wrote out0 out (printed (noisy_bits heard noise))
 
@@ -43,6 +44,7 @@ pub record HeardUnprinted (printed : List Bool → List ℕ) (bits : List Bool) 
   pub bits_are : bits ≡ heard ++ rest
   pub noise : List Bool
   pub took : Took old new noise
+  pub of_noise : IsTrue old.tells → noisy_bits heard noise ≡ noisy_bits heard old.left
   pub there : IsTrue old.tells → heard ≢ [] → IsTrue old.there
   pub wrote : WroteFront out0 out (printed (noisy_bits heard noise))
 

@@ -48,6 +48,7 @@ pub record TriedNoise (settings : Parts) (spare : ℕ) (printed : List Bool → 
   pub air_is : tried.air ≡ heard ++ rest
   pub flips : List Bool
   pub failed : FailedAfter noise0 noise flips
+  pub of_noise : IsTrue noise0.tells → noisy_bits heard flips ≡ noisy_bits heard noise0.left
   pub there : IsTrue noise0.tells → heard ≢ [] → IsTrue noise0.there
   pub wrote : Wrote out0 out (trial_lines printed tried.session (noisy_bits heard flips))
 
@@ -60,6 +61,7 @@ pub record TriedFront (settings : Parts) (spare : ℕ) (printed : List Bool → 
   pub air_is : tried.air ≡ heard ++ rest
   pub flips : List Bool
   pub took_flips : Took noise0 noise flips
+  pub of_noise : IsTrue noise0.tells → noisy_bits heard flips ≡ noisy_bits heard noise0.left
   pub there : IsTrue noise0.tells → heard ≢ [] → IsTrue noise0.there
   pub wrote : WroteFront out0 out (trial_lines printed tried.session (noisy_bits heard flips))
 

@@ -1,7 +1,7 @@
 use Rattle.std.proofs.Common.{◌∙◌, refl, subst, Bool, List}
 use Rattle.wires.specs.Stacked.{noisy_bits}
 use Rattle.station.proofs.Listens.{prints_as}
-use Rattle.station.proofs.NoisyHeard.{few_now, prints_flipped, then_heard, through_all, through_begins, through_goes_on, through_unprinted, with_left}
+use Rattle.station.proofs.NoisyHeard.{few_now, prints_flipped, then_heard, through_all, through_begins, through_failed, through_goes_on, through_unprinted, with_left}
 use Rattle.station.proofs.noise.listen_through.Goals as goal
 
 pub loop-bit-init : goal.loop-bit-init
@@ -14,6 +14,9 @@ loop-bit-init g c = record {
     c.requires.none,
   );
 }
+
+pub returns-in-Err : goal.returns-in-Err
+returns-in-Err g c = through_failed _ _ _ _ _ _ _ _ _ _ c.in-Err.field-0 c.loop-bit.invariant.so_far.0 c.in-Err.ensures
 
 pub returns-in-Err-hear : goal.returns-in-Err-hear
 returns-in-Err-hear g c =
