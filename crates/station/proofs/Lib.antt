@@ -61,3 +61,4 @@ pub mod OneOfOne
 pub mod OneTalks
 pub mod OneServings
 pub mod OneStations
+pub mod OneTrials

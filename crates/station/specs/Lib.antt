@@ -37,3 +37,4 @@ pub mod Calls
 pub mod Delivered
 pub mod OneOutcome
 pub mod OneStation
+pub mod OneTrial

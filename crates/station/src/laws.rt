@@ -9,6 +9,7 @@ ghost use Rattle.station.specs.LoneBlock.{HasText, IsMarkedBlock};
 ghost use Rattle.station.specs.NearAir.{CleanAir, NearAir};
 ghost use Rattle.station.specs.OneOutcome.{OneOne, OnePlay, OneShow};
 ghost use Rattle.station.specs.OneStation.{OneStation};
+ghost use Rattle.station.specs.OneTrial.{OneTrial};
 
 /// An input is at most one block, with a right trailer or a wrong one, and a content has at most one text. So the answers of `one`
 /// that speak of its input exclude one another.
@@ -49,4 +50,5 @@ pub fn one_outcome()
     ensures show { OneShow }
     ensures one { OneOne }
     ensures station { OneStation }
+    ensures trial { OneTrial }
 {}

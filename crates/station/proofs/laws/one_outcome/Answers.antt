@@ -1,6 +1,7 @@
 use Rattle.station.proofs.OneOfOne.{one_one}
 use Rattle.station.proofs.OneOutcomes.{one_play, one_show}
 use Rattle.station.proofs.OneStations.{one_station}
+use Rattle.station.proofs.OneTrials.{one_trial}
 use Rattle.station.proofs.laws.one_outcome.Goals as goal
 
 pub returns-clause-play : goal.returns-clause-play
@@ -14,3 +15,6 @@ returns-clause-one c = one_one
 
 pub returns-clause-station : goal.returns-clause-station
 returns-clause-station c = one_station
+
+pub returns-clause-trial : goal.returns-clause-trial
+returns-clause-trial c = one_trial

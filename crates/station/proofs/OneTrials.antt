@@ -1,0 +1,180 @@
+-- What `trial` comes to where no call fails.
+use Rattle.std.proofs.Common.{◌≡◌, ◌≢◌, ℕ, ◌+◌, ◌≤◌, ◌⊎◌, inl, inr, Bool, List, ◌++◌, append_assoc, drop, length, length-append, Result, Ok, Err, IsTrue, refl, sym, ◌∙◌, ap, ap₂, subst, arith}
+use Rattle.std.specs.Prelude.{codes}
+use Rattle.std.proofs.lemmas.Grind.{flat_map-append}
+use Rattle.std.proofs.lemmas.List.{map-append}
+use Rattle.air.specs.Air.{IsAir}
+use Rattle.bits.specs.Bits.{bytes_bits}
+use Rattle.subscribers.specs.Parts.{Parts}
+use Rattle.subscribers.specs.Settings.{settings_of}
+use Rattle.subscribers.specs.declared.faults.SettingsFault.{SettingsFault}
+use Rattle.tap_block.specs.Chars.{char_of, characters}
+use Rattle.tap_terminal.specs.Desk.{directory_of}
+use Rattle.tap_terminal.specs.Session.{IsSession, Session}
+use Rattle.tap_terminal.proofs.Fronts.{fronts, session_exists}
+use Rattle.tap_terminal.proofs.Sessions.{one_session}
+use Rattle.wires.proofs.Noise.{noisy_bits-append}
+use Rattle.wires.proofs.Written.{and_one, still}
+use Rattle.wires.specs.Files.{Files}
+use Rattle.wires.specs.Held.{OtherFiles}
+use Rattle.wires.specs.Left.{Left}
+use Rattle.wires.specs.Stacked.{noisy_bits}
+use Rattle.wires.specs.Written.{Written}
+use Rattle.station.specs.declared.outcomes.Outcome.{Outcome}
+use Rattle.station.specs.declared.outcomes.Outcome.TheVariants.{Ended, Misread, Refused}
+use Rattle.station.specs.declared.statuses.Status.{Status}
+use Rattle.station.specs.declared.statuses.Status.TheVariants.{Done, FileFault, InputFault, Memory, OutFault}
+use Rattle.station.specs.Answers.{answer_line, answer_lines}
+use Rattle.station.specs.OneTrial.{FitTrial, OneTrial}
+use Rattle.station.specs.PageLines.{play_lines}
+use Rattle.station.specs.Rows.{Streams}
+use Rattle.station.specs.Sessions.{SessionOf}
+use Rattle.station.specs.StationRows.{TrialRow, TriedBy}
+use Rattle.station.specs.Trying.{TriedAll, Tries, trial_lines}
+use Rattle.station.proofs.HeardFronts.{Grows, play_lines-grow}
+use Rattle.station.proofs.OneAir.{one_air}
+use Rattle.station.proofs.Trials.{air_of}
+
+-- how long what a trial prints is
+length-trial_lines : (printed : List Bool → List ℕ) (session : Session) (bits : List Bool)
+    → length (trial_lines printed session bits) ≡ length (answer_lines session.answers) + length (codes "---\n") + length (printed bits)
+length-trial_lines printed session bits =
+    length-append (answer_lines session.answers ++ codes "---\n") (printed bits) ∙ ap (λ (n : ℕ). n + length (printed bits)) (length-append (answer_lines session.answers) (codes "---\n"))
+
+-- the lines of the answers to a front are no longer
+short_answers : (settings : Parts) (spare : ℕ) (x rest : List ℕ) (front whole : Session) → SessionOf settings spare x front → SessionOf settings spare (x ++ rest) whole
+    → length (answer_lines front.answers) ≤ length (answer_lines whole.answers)
+short_answers settings spare x rest front whole h k =
+    let more = fronts settings.password (directory_of settings) spare (characters x) (characters rest) front whole h
+    (subst (λ (z : List ℕ). IsSession settings.password (directory_of settings) spare z whole) (map-append char_of x rest) k) in
+    let e : answer_lines whole.answers ≡ answer_lines front.answers ++ answer_lines more.answers = ap answer_lines more.answers_are ∙ flat_map-append answer_line front.answers more.answers in
+    omega (arith, ap length e, length-append (answer_lines front.answers) (answer_lines more.answers))
+
+-- the room for the lines of a trial
+abbrev Room : Parts → ℕ → (List Bool → List ℕ) → List ℕ → List Bool → ℕ → Type 0
+Room settings spare printed input noise room = (session : Session) (air : List Bool) → SessionOf settings spare input session → IsAir session.pages air → length (trial_lines printed session (noisy_bits air noise)) ≤ room
+
+-- a trial over fit objects comes to Done
+tries_done : (settings : Parts) (spare : ℕ) (printed : List Bool → List ℕ) (input0 input : Left ℕ) (noise0 noise : Left Bool) (out0 out : Written ℕ) (status : Status) → Grows printed
+    → IsTrue input0.tells → IsTrue input0.steady → IsTrue noise0.tells → IsTrue noise0.steady → IsTrue out0.tells → IsTrue out0.steady → Room settings spare printed input0.left noise0.left out0.room
+    → Tries settings spare printed input0 input noise0 noise out0 out status → (status ≡ Done) × TriedAll settings spare printed input0 input noise0 noise out0 out
+tries_done settings spare printed input0 input noise0 noise out0 out Done g it is nt ns ot os room h = (refl, h)
+tries_done settings spare printed input0 input noise0 noise out0 out FileFault g it is nt ns ot os room h = absurd (h.failed.unsteady nt ns)
+tries_done settings spare printed input0 input noise0 noise out0 out InputFault g it is nt ns ot os room h = absurd (h.broken.unsteady it is)
+tries_done settings spare printed input0 input noise0 noise out0 out OutFault g it is nt ns ot os room (inl h) =
+    let u = h.unprinted in
+    let all : input0.left ≡ u.fed ++ ((u.fed_is).rest ++ input.left) =
+    u.took.left it ∙ (ap (λ (z : List ℕ). z ++ input.left) (u.fed_is).is ∙ append_assoc u.fed (u.fed_is).rest input.left) in
+    let whole = session_exists settings.password (directory_of settings) spare (characters input0.left) in
+    let air = air_of (whole.0).pages in
+    let short = short_answers settings spare u.fed ((u.fed_is).rest ++ input.left) u.session whole.0 u.session_is (subst (λ (z : List ℕ). SessionOf settings spare z whole.0) all whole.1) in
+    absurd (u.wrote.unfit ot os (omega (arith, short, room whole.0 air.0 whole.1 air.1, length-trial_lines printed whole.0 (noisy_bits air.0 noise0.left))))
+tries_done settings spare printed input0 input noise0 noise out0 out OutFault g it is nt ns ot os room (inr h) =
+    let t = h.tried in
+    let more = noisy_bits h.rest (drop (length h.heard) noise0.left) in
+    let bits : noisy_bits t.air noise0.left ≡ noisy_bits h.heard h.flips ++ more =
+    ap (λ (z : List Bool). noisy_bits z noise0.left) h.air_is ∙ (noisy_bits-append h.heard h.rest noise0.left ∙ ap (λ (z : List Bool). z ++ more) (sym (h.of_noise nt))) in
+    let front = g (noisy_bits h.heard h.flips) more in
+    let text : printed (noisy_bits t.air noise0.left) ≡ printed (noisy_bits h.heard h.flips) ++ front.rest = ap printed bits ∙ front.is in
+    absurd (h.wrote.unfit ot os (omega (
+      arith,
+      room t.session t.air (t.of_all it) t.is_air,
+      length-trial_lines printed t.session (noisy_bits t.air noise0.left),
+      length-trial_lines printed t.session (noisy_bits h.heard h.flips),
+      ap length text,
+      length-append (printed (noisy_bits h.heard h.flips)) front.rest,
+    )))
+tries_done settings spare printed input0 input noise0 noise out0 out other g it is nt ns ot os room h = elim h [ ]
+
+-- The settings were read, and all lines of the trial were printed.
+pub record IsTried (settings noise capcodes : List ℕ) (shelf : Files) (streams : Streams) (out : Written ℕ) (outcome : Outcome) : Type 0 where
+  pub parts : Parts
+  pub settings_are : settings_of (shelf.file settings) ≡ Ok parts
+  pub session : Session
+  pub session_is : SessionOf parts parts.cells streams.input.left session
+  pub air : List Bool
+  pub is_air : IsAir session.pages air
+  pub held : out.held ≡ streams.out.held ++ trial_lines (play_lines capcodes) session (noisy_bits air (bytes_bits (shelf.file noise)))
+  pub outcome_is : outcome ≡ Ended Done
+
+-- The settings are refused, and nothing was printed.
+pub record IsUntried (settings : List ℕ) (shelf : Files) (streams : Streams) (out : Written ℕ) (outcome : Outcome) : Type 0 where
+  pub fault : SettingsFault
+  pub settings_are : settings_of (shelf.file settings) ≡ Err fault
+  pub out_stays : out ≡ streams.out
+  pub outcome_is : outcome ≡ Refused fault
+
+is_tried : (settings noise capcodes : List ℕ) (shelf new : Files) (streams : Streams) (input : Left ℕ) (out : Written ℕ) (status : Status) → FitTrial settings noise capcodes shelf streams
+    → TriedBy settings noise capcodes streams.input input shelf new streams.out out status → IsTried settings noise capcodes shelf streams out (Ended status)
+is_tried settings noise capcodes shelf new streams input out status fit h =
+    let are = h.read.settings_are fit.tells in
+    let b = h.tried.bits_are in
+    let kept = h.read.unharmed.kept.files in
+    let file : (h.tried.bits).left ≡ bytes_bits (shelf.file noise) = b.left ∙ ap (λ (x : OtherFiles). bytes_bits (x.file noise)) kept in
+    let there : IsTrue (h.shelf.there noise) = still (ap (λ (x : OtherFiles). x.there noise) kept) fit.noise_there in
+    let steady : IsTrue (h.tried.bits).steady = still b.steady (and_one h.shelf.steady (h.shelf.there noise) (h.read.unharmed.steady fit.tells fit.steady fit.there) there) in
+    let tells : IsTrue (h.tried.bits).tells = still b.tells (still h.read.unharmed.kept.tells fit.tells) in
+    let room : Room h.parts h.parts.cells (play_lines capcodes) streams.input.left (h.tried.bits).left streams.out.room =
+    subst (λ (z : List Bool). Room h.parts h.parts.cells (play_lines capcodes) streams.input.left z streams.out.room) (sym file) (fit.room h.parts are) in
+    let d = tries_done h.parts h.parts.cells (play_lines capcodes) streams.input input h.tried.bits h.tried.rest streams.out out status (play_lines-grow capcodes)
+    fit.input_tells fit.input_steady tells steady fit.out_tells fit.out_steady room h.tried.tries in
+    let t = d.1.tried in
+    record {
+      parts = h.parts;
+      settings_are = are;
+      session = t.session;
+      session_is = t.of_all fit.input_tells;
+      air = t.air;
+      is_air = t.is_air;
+      held = d.1.wrote.held fit.out_tells
+          ∙ ap (λ (z : List Bool). streams.out.held ++ trial_lines (play_lines capcodes) t.session z) (d.1.of_noise tells ∙ ap (noisy_bits t.air) file);
+      outcome_is = ap (λ (x : Status). Ended x) d.0;
+    }
+
+-- what a row comes to
+view : (settings noise capcodes : List ℕ) (shelf new : Files) (streams : Streams) (input : Left ℕ) (out : Written ℕ) (outcome : Outcome) → FitTrial settings noise capcodes shelf streams → outcome ≢ Ended Memory
+    → TrialRow settings noise capcodes streams.input input shelf new streams.out out outcome → IsTried settings noise capcodes shelf streams out outcome ⊎ IsUntried settings shelf streams out outcome
+view settings noise capcodes shelf new streams input out (Refused fault) fit some h = inr (record { fault = fault; settings_are = h.0.refused fit.tells; out_stays = h.2; outcome_is = refl })
+view settings noise capcodes shelf new streams input out (Misread fault) fit some h = elim h [ ]
+view settings noise capcodes shelf new streams input out (Ended Memory) fit some h = absurd (some refl)
+view settings noise capcodes shelf new streams input out (Ended FileFault) fit some (inl h) = absurd (h.0.unsteady fit.tells fit.steady fit.there)
+view settings noise capcodes shelf new streams input out (Ended FileFault) fit some (inr h) = inl (is_tried settings noise capcodes shelf new streams input out FileFault fit h)
+view settings noise capcodes shelf new streams input out (Ended status) fit some h = inl (is_tried settings noise capcodes shelf new streams input out status fit h)
+
+one_ok : (x : Result Parts SettingsFault) (a b : Parts) → x ≡ Ok a → x ≡ Ok b → b ≡ a
+one_ok x a b h k = cc
+
+one_err : (x : Result Parts SettingsFault) (a b : SettingsFault) → x ≡ Err a → x ≡ Err b → b ≡ a
+one_err x a b h k = cc
+
+ok_and_err : {B : Type 0} (x : Result Parts SettingsFault) (a : Parts) (b : SettingsFault) → x ≡ Ok a → x ≡ Err b → B
+ok_and_err x a b h k = cc
+
+-- two that were tried
+both_tried : (settings noise capcodes : List ℕ) (shelf : Files) (streams : Streams) (out out2 : Written ℕ) (outcome another : Outcome) → IsTried settings noise capcodes shelf streams out outcome
+    → IsTried settings noise capcodes shelf streams out2 another → (another ≡ outcome) × (out2.held ≡ out.held)
+both_tried settings noise capcodes shelf streams out out2 outcome another h k =
+    let same : k.parts ≡ h.parts = one_ok (settings_of (shelf.file settings)) h.parts k.parts h.settings_are k.settings_are in
+    let session : k.session ≡ h.session =
+    one_session h.parts.password (directory_of h.parts) h.parts.cells (characters streams.input.left) k.session h.session
+    (subst (λ (p : Parts). SessionOf p p.cells streams.input.left k.session) same k.session_is) h.session_is in
+    let air : k.air ≡ h.air = one_air h.session.pages h.air k.air h.is_air (subst (λ (s : Session). IsAir s.pages k.air) session k.is_air) in (
+      k.outcome_is ∙ sym h.outcome_is,
+      k.held ∙ (ap₂ (λ (s : Session) (z : List Bool). streams.out.held ++ trial_lines (play_lines capcodes) s (noisy_bits z (bytes_bits (shelf.file noise)))) session air ∙ sym h.held),
+    )
+
+pub one_trial : OneTrial
+one_trial settings noise capcodes old new other outcome another fit h k some some2 =
+    elim (view settings noise capcodes old.shelf new.shelf old.streams new.streams.input new.streams.out outcome fit some h.row) [
+      | inl tried ↦ elim (view settings noise capcodes old.shelf other.shelf old.streams other.streams.input other.streams.out another fit some2 k.row) [
+        | inl tried2 ↦ both_tried settings noise capcodes old.shelf old.streams new.streams.out other.streams.out outcome another tried tried2
+        | inr refused2 ↦ ok_and_err (settings_of (old.shelf.file settings)) tried.parts refused2.fault tried.settings_are refused2.settings_are
+      ]
+      | inr refused ↦ elim (view settings noise capcodes old.shelf other.shelf old.streams other.streams.input other.streams.out another fit some2 k.row) [
+        | inl tried2 ↦ ok_and_err (settings_of (old.shelf.file settings)) tried2.parts refused.fault tried2.settings_are refused.settings_are
+        | inr refused2 ↦ (
+          refused2.outcome_is ∙ (ap (λ (x : SettingsFault). Refused x) (one_err (settings_of (old.shelf.file settings)) refused.fault refused2.fault refused.settings_are refused2.settings_are) ∙ sym refused.outcome_is),
+          ap (λ (o : Written ℕ). o.held) (refused2.out_stays ∙ sym refused.out_stays),
+        )
+      ]
+    ]

@@ -1,0 +1,35 @@
+-- Two runs of `trial` over the same objects, where no call fails, come to the same.
+use Rattle.std.specs.Prelude.{◌≡◌, ◌≢◌, ℕ, ◌≤◌, Bool, List, length, Ok, IsTrue}
+use Rattle.air.specs.Air.{IsAir}
+use Rattle.bits.specs.Bits.{bytes_bits}
+use Rattle.subscribers.specs.Parts.{Parts}
+use Rattle.subscribers.specs.Settings.{settings_of}
+use Rattle.tap_terminal.specs.Session.{Session}
+use Rattle.wires.specs.Files.{Files}
+use Rattle.wires.specs.Stacked.{noisy_bits}
+use Rattle.station.specs.declared.outcomes.Outcome.{Outcome}
+use Rattle.station.specs.declared.outcomes.Outcome.TheVariants.{Ended}
+use Rattle.station.specs.declared.statuses.Status.TheVariants.{Memory}
+use Rattle.station.specs.PageLines.{play_lines}
+use Rattle.station.specs.Rows.{Objects, RunsTrial, Streams}
+use Rattle.station.specs.Sessions.{SessionOf}
+use Rattle.station.specs.Trying.{trial_lines}
+
+-- The shelf is steady and has both files, the input is steady, and the output too, with room for the lines of the trial.
+pub record FitTrial (settings noise capcodes : List ℕ) (shelf : Files) (streams : Streams) : Type 0 where
+  pub tells : IsTrue shelf.tells
+  pub steady : IsTrue shelf.steady
+  pub there : IsTrue (shelf.there settings)
+  pub noise_there : IsTrue (shelf.there noise)
+  pub input_tells : IsTrue streams.input.tells
+  pub input_steady : IsTrue streams.input.steady
+  pub out_tells : IsTrue streams.out.tells
+  pub out_steady : IsTrue streams.out.steady
+  pub room : (parts : Parts) → settings_of (shelf.file settings) ≡ Ok parts → (session : Session) (air : List Bool) → SessionOf parts parts.cells streams.input.left session → IsAir session.pages air
+      → length (trial_lines (play_lines capcodes) session (noisy_bits air (bytes_bits (shelf.file noise)))) ≤ streams.out.room
+
+-- Over fit objects two runs of `trial` that had memory come to the same, and the output holds the same after both.
+abbrev pub OneTrial : Type 0
+OneTrial = (settings noise capcodes : List ℕ) (old new other : Objects) (outcome another : Outcome) → FitTrial settings noise capcodes old.shelf old.streams
+    → RunsTrial settings noise capcodes old new outcome → RunsTrial settings noise capcodes old other another → outcome ≢ Ended Memory → another ≢ Ended Memory
+    → (another ≡ outcome) × (other.streams.out.held ≡ new.streams.out.held)
