@@ -62,3 +62,6 @@ pub mod OneTalks
 pub mod OneServings
 pub mod OneStations
 pub mod OneTrials
+pub mod OneCommands
+pub mod OneRuns
+pub mod OneSettings

@@ -1,5 +1,5 @@
 -- What `station` comes to where no call fails.
-use Rattle.std.proofs.Common.{◌≡◌, ◌≢◌, ℕ, ◌*◌, ◌≤◌, ◌⊎◌, inl, inr, List, length, Result, Ok, Err, IsTrue, refl, sym, ◌∙◌, ap, subst}
+use Rattle.std.proofs.Common.{◌≡◌, ◌≢◌, ℕ, ◌*◌, ◌≤◌, ◌⊎◌, inl, inr, List, length, Ok, Err, IsTrue, refl, sym, ◌∙◌, ap, subst}
 use Rattle.bits.specs.Bits.{bytes_bits}
 use Rattle.subscribers.specs.Parts.{Parts}
 use Rattle.subscribers.specs.Settings.{settings_of}
@@ -20,6 +20,7 @@ use Rattle.station.specs.Served.{FitOut, FitShelf, FitWire, airs}
 use Rattle.station.specs.Serving.{Around, AtDone, HasServed}
 use Rattle.station.specs.StationRows.{ServedBy, StationRow, with_shelf}
 use Rattle.station.proofs.OneServings.{done_alike}
+use Rattle.station.proofs.OneSettings.{ok_and_err, one_err, one_ok}
 
 -- a shelf of which a file was read is as fit
 fit_after : (settings : Parts) (spare most : ℕ) (wire : Line) (old now : Files) (name file : List ℕ) → IsTrue old.tells → IsTrue old.steady → IsTrue (old.there name) → Unharmed name old now
@@ -93,15 +94,6 @@ view settings address air count old new (Ended Memory) fit some h = absurd (some
 view settings address air count old new (Ended FileFault) fit some (inl h) = absurd (h.0.unsteady fit.tells fit.steady fit.there)
 view settings address air count old new (Ended FileFault) fit some (inr h) = inl (is_served settings address air count old new FileFault fit h)
 view settings address air count old new (Ended status) fit some h = inl (is_served settings address air count old new status fit h)
-
-one_ok : (x : Result Parts SettingsFault) (a b : Parts) → x ≡ Ok a → x ≡ Ok b → b ≡ a
-one_ok x a b h k = cc
-
-one_err : (x : Result Parts SettingsFault) (a b : SettingsFault) → x ≡ Err a → x ≡ Err b → b ≡ a
-one_err x a b h k = cc
-
-ok_and_err : {B : Type 0} (x : Result Parts SettingsFault) (a : Parts) (b : SettingsFault) → x ≡ Ok a → x ≡ Err b → B
-ok_and_err x a b h k = cc
 
 -- two that were served
 both_served : (settings address air : List ℕ) (count : ℕ) (old new other : Around) (outcome another : Outcome) → FitStation settings air count old → IsServed settings address air count old new outcome

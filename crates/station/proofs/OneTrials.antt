@@ -1,5 +1,5 @@
 -- What `trial` comes to where no call fails.
-use Rattle.std.proofs.Common.{◌≡◌, ◌≢◌, ℕ, ◌+◌, ◌≤◌, ◌⊎◌, inl, inr, Bool, List, ◌++◌, append_assoc, drop, length, length-append, Result, Ok, Err, IsTrue, refl, sym, ◌∙◌, ap, ap₂, subst, arith}
+use Rattle.std.proofs.Common.{◌≡◌, ◌≢◌, ℕ, ◌+◌, ◌≤◌, ◌⊎◌, inl, inr, Bool, List, ◌++◌, append_assoc, drop, length, length-append, Ok, Err, IsTrue, refl, sym, ◌∙◌, ap, ap₂, subst, arith}
 use Rattle.std.specs.Prelude.{codes}
 use Rattle.std.proofs.lemmas.Grind.{flat_map-append}
 use Rattle.std.proofs.lemmas.List.{map-append}
@@ -33,6 +33,7 @@ use Rattle.station.specs.StationRows.{TrialRow, TriedBy}
 use Rattle.station.specs.Trying.{TriedAll, Tries, trial_lines}
 use Rattle.station.proofs.HeardFronts.{Grows, play_lines-grow}
 use Rattle.station.proofs.OneAir.{one_air}
+use Rattle.station.proofs.OneSettings.{ok_and_err, one_err, one_ok}
 use Rattle.station.proofs.Trials.{air_of}
 
 -- how long what a trial prints is
@@ -140,15 +141,6 @@ view settings noise capcodes shelf new streams input out (Ended Memory) fit some
 view settings noise capcodes shelf new streams input out (Ended FileFault) fit some (inl h) = absurd (h.0.unsteady fit.tells fit.steady fit.there)
 view settings noise capcodes shelf new streams input out (Ended FileFault) fit some (inr h) = inl (is_tried settings noise capcodes shelf new streams input out FileFault fit h)
 view settings noise capcodes shelf new streams input out (Ended status) fit some h = inl (is_tried settings noise capcodes shelf new streams input out status fit h)
-
-one_ok : (x : Result Parts SettingsFault) (a b : Parts) → x ≡ Ok a → x ≡ Ok b → b ≡ a
-one_ok x a b h k = cc
-
-one_err : (x : Result Parts SettingsFault) (a b : SettingsFault) → x ≡ Err a → x ≡ Err b → b ≡ a
-one_err x a b h k = cc
-
-ok_and_err : {B : Type 0} (x : Result Parts SettingsFault) (a : Parts) (b : SettingsFault) → x ≡ Ok a → x ≡ Err b → B
-ok_and_err x a b h k = cc
 
 -- two that were tried
 both_tried : (settings noise capcodes : List ℕ) (shelf : Files) (streams : Streams) (out out2 : Written ℕ) (outcome another : Outcome) → IsTried settings noise capcodes shelf streams out outcome

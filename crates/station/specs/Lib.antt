@@ -38,3 +38,4 @@ pub mod Delivered
 pub mod OneOutcome
 pub mod OneStation
 pub mod OneTrial
+pub mod OneRun

@@ -8,6 +8,7 @@ ghost use Rattle.station.specs.Joined.{BothEnds};
 ghost use Rattle.station.specs.LoneBlock.{HasText, IsMarkedBlock};
 ghost use Rattle.station.specs.NearAir.{CleanAir, NearAir};
 ghost use Rattle.station.specs.OneOutcome.{OneOne, OnePlay, OneShow};
+ghost use Rattle.station.specs.OneRun.{OneRun};
 ghost use Rattle.station.specs.OneStation.{OneStation};
 ghost use Rattle.station.specs.OneTrial.{OneTrial};
 
@@ -51,4 +52,5 @@ pub fn one_outcome()
     ensures one { OneOne }
     ensures station { OneStation }
     ensures trial { OneTrial }
+    ensures run { OneRun }
 {}

@@ -1,0 +1,82 @@
+-- Words are one command's at most.
+use Rattle.std.proofs.Common.{◌≡◌, ℕ, List, [], ◌∷◌, Option, Some, None, get_or, refl, sym, ◌∙◌, ap, ap₂, arith}
+use Rattle.station.specs.Commands.{AreCommand, AreOne, ArePlay, AreSend, AreShow, AreStation, AreTrial, Command, IsCommand, One, Play, Say, Send, Show, Station, Trial}
+
+-- the second letter of a command's name
+letter : Command → ℕ
+letter (One capcode) = 110
+letter (Play air capcodes) = 108
+letter (Show air) = 104
+letter (Station address settings air count) = 116
+letter (Trial settings noise capcodes) = 114
+letter (Send address pages) = 101
+
+letter_is : (name : List ℕ) (words : List (List ℕ)) (command : Command) → IsCommand (name ∷ words) command → get_or name 1 0 ≡ letter command
+unfolding letter
+letter_is name words (One capcode) h = ap (λ (l : List ℕ). get_or l 1 0) h.0
+letter_is name words (Play air capcodes) h = ap (λ (l : List ℕ). get_or l 1 0) h.0
+letter_is name words (Show air) h = ap (λ (l : List ℕ). get_or l 1 0) h.0
+letter_is name words (Station address settings air count) h = ap (λ (l : List ℕ). get_or l 1 0) h.0
+letter_is name words (Trial settings noise capcodes) h = ap (λ (l : List ℕ). get_or l 1 0) h.0
+letter_is name words (Send address pages) h = ap (λ (l : List ℕ). get_or l 1 0) h.0
+
+one_capcodes : (words : List (List ℕ)) (a b : List ℕ) → Say words a → Say words b → b ≡ a
+one_capcodes [] [] [] h k = refl
+one_capcodes [] (c ∷ a) b h k = elim h [ ]
+one_capcodes [] [] (c ∷ b) h k = elim k [ ]
+one_capcodes (word ∷ words) [] b h k = elim h [ ]
+one_capcodes (word ∷ words) (c ∷ a) [] h k = elim k [ ]
+one_capcodes (word ∷ words) (c ∷ a) (d ∷ b) h k = ap₂ (λ (x : ℕ) (l : List ℕ). x ∷ l) (k.0.value ∙ sym h.0.value) (one_capcodes words a b h.1 k.1)
+
+one_one : (words : List (List ℕ)) (a b : ℕ) → AreOne words a → AreOne words b → One b ≡ One a
+one_one [] a b h k = elim h [ ]
+one_one (word ∷ []) a b h k = ap One (k.value ∙ sym h.value)
+one_one (word ∷ other ∷ words) a b h k = elim h [ ]
+
+one_play : (words : List (List ℕ)) (air air2 cs cs2 : List ℕ) → ArePlay words air cs → ArePlay words air2 cs2 → Play air2 cs2 ≡ Play air cs
+one_play [] air air2 cs cs2 h k = elim h [ ]
+one_play (word ∷ words) air air2 cs cs2 h k = ap₂ Play (sym k.0 ∙ h.0) (one_capcodes words cs cs2 h.2.say k.2.say)
+
+one_show : (words : List (List ℕ)) (air air2 : List ℕ) → AreShow words air → AreShow words air2 → Show air2 ≡ Show air
+one_show [] air air2 h k = elim h [ ]
+one_show (word ∷ []) air air2 h k = ap Show (sym k.0 ∙ h.0)
+one_show (word ∷ other ∷ words) air air2 h k = elim h [ ]
+
+one_send : (words : List (List ℕ)) (a a2 p p2 : List ℕ) → AreSend words a p → AreSend words a2 p2 → Send a2 p2 ≡ Send a p
+one_send [] a a2 p p2 h k = elim h [ ]
+one_send (w ∷ []) a a2 p p2 h k = elim h [ ]
+one_send (w ∷ v ∷ []) a a2 p p2 h k = ap₂ Send (sym k.0 ∙ h.0) (sym k.1 ∙ h.1)
+one_send (w ∷ v ∷ u ∷ words) a a2 p p2 h k = elim h [ ]
+
+one_trial : (words : List (List ℕ)) (s s2 n n2 cs cs2 : List ℕ) → AreTrial words s n cs → AreTrial words s2 n2 cs2 → Trial s2 n2 cs2 ≡ Trial s n cs
+one_trial [] s s2 n n2 cs cs2 h k = elim h [ ]
+one_trial (w ∷ []) s s2 n n2 cs cs2 h k = elim h [ ]
+one_trial (w ∷ v ∷ words) s s2 n n2 cs cs2 h k =
+    ap₂ (λ (a b : List ℕ). Trial a b cs2) (sym k.0 ∙ h.0) (sym k.1 ∙ h.1) ∙ ap (Trial s n) (one_capcodes words cs cs2 h.4.say k.4.say)
+
+one_station : (words : List (List ℕ)) (a a2 s s2 f f2 : List ℕ) (n n2 : ℕ) → AreStation words a s f n → AreStation words a2 s2 f2 n2 → Station a2 s2 f2 n2 ≡ Station a s f n
+one_station [] a a2 s s2 f f2 n n2 h k = elim h [ ]
+one_station (w ∷ []) a a2 s s2 f f2 n n2 h k = elim h [ ]
+one_station (w ∷ v ∷ []) a a2 s s2 f f2 n n2 h k = elim h [ ]
+one_station (w ∷ v ∷ u ∷ []) a a2 s s2 f f2 n n2 h k = elim h [ ]
+one_station (w ∷ v ∷ u ∷ t ∷ []) a a2 s s2 f f2 n n2 h k =
+    ap₂ (λ (x y : List ℕ). Station x y f2 n2) (sym k.0 ∙ h.0) (sym k.1 ∙ h.1) ∙ ap₂ (λ (x : List ℕ) (m : ℕ). Station a s x m) (sym k.2 ∙ h.2) (k.6.value ∙ sym h.6.value)
+one_station (w ∷ v ∷ u ∷ t ∷ r ∷ words) a a2 s s2 f f2 n n2 h k = elim h [ ]
+
+one_some : (words : List (List ℕ)) (a b : Command) → IsCommand words a → IsCommand words b → b ≡ a
+unfolding letter
+one_some [] a b h k = elim h [ ]
+one_some (name ∷ words) (One a) (One b) h k = one_one words a b h.1 k.1
+one_some (name ∷ words) (Play a c) (Play b d) h k = one_play words a b c d h.1 k.1
+one_some (name ∷ words) (Show a) (Show b) h k = one_show words a b h.1 k.1
+one_some (name ∷ words) (Station a s f n) (Station a2 s2 f2 n2) h k = one_station words a a2 s s2 f f2 n n2 h.1 k.1
+one_some (name ∷ words) (Trial s n c) (Trial s2 n2 c2) h k = one_trial words s s2 n n2 c c2 h.1 k.1
+one_some (name ∷ words) (Send a p) (Send b q) h k = one_send words a b p q h.1 k.1
+one_some (name ∷ words) a b h k = let e = letter_is name words a h in let f = letter_is name words b k in absurd (omega (arith, e, f))
+
+-- the words are one command's or none's
+pub one_command : (words : List (List ℕ)) (a b : Option Command) → AreCommand words a → AreCommand words b → b ≡ a
+one_command words None None h k = refl
+one_command words None (Some b) h k = absurd (h b k)
+one_command words (Some a) None h k = absurd (k a h)
+one_command words (Some a) (Some b) h k = ap (λ (c : Command). Some c) (one_some words a b h k)

@@ -1,0 +1,56 @@
+-- Two runs of the same words over the same objects, where no call fails, come to the same.
+use Rattle.std.specs.Prelude.{◌≡◌, ◌≢◌, ℕ, ◌≤◌, List, length, Option, Some, None, IsTrue}
+use Rattle.bits.specs.Bits.{bytes_bits}
+use Rattle.station.specs.declared.outcomes.Outcome.{Outcome}
+use Rattle.station.specs.declared.outcomes.Outcome.TheVariants.{Ended, Misread, Refused}
+use Rattle.station.specs.declared.statuses.Status.{Status}
+use Rattle.station.specs.declared.statuses.Status.TheVariants.{Memory}
+use Rattle.station.specs.Commands.{AreCommand, Command, One, Play, Send, Show, Station, Trial}
+use Rattle.station.specs.OneOutcome.{FitFile, FitFor, FitOne, bits_listened}
+use Rattle.station.specs.OneStation.{FitStation, SameServing}
+use Rattle.station.specs.OneTrial.{FitTrial}
+use Rattle.station.specs.Outcomes.{pages_line, settings_line}
+use Rattle.station.specs.PageLines.{play_lines}
+use Rattle.station.specs.Rows.{Acts, Objects, Outside, Runs, around}
+use Rattle.station.specs.Statuses.{line_of}
+use Rattle.station.specs.Table.{table_of}
+
+-- The objects are fit for a command. Of `send` nothing is said.
+abbrev pub FitRun : Option Command → Objects → Type 0
+FitRun None old = Unit {0}
+FitRun (Some (One capcode)) old = FitOne capcode old.streams
+FitRun (Some (Play air capcodes)) old = FitFile air old.shelf × FitFor old.streams.out (play_lines capcodes (bits_listened air old.shelf))
+FitRun (Some (Show air)) old = FitFile air old.shelf × FitFor old.streams.out (table_of (bits_listened air old.shelf))
+FitRun (Some (Station address settings air count)) old = FitStation settings air count (around old)
+FitRun (Some (Trial settings noise capcodes)) old = FitTrial settings noise capcodes old.shelf old.streams
+FitRun (Some (Send address pages)) old = ⊥
+
+-- what two runs of a command made is the same
+abbrev pub MadeAlike : Option Command → Objects → Objects → Type 0
+MadeAlike None new other = other ≡ new
+MadeAlike (Some (One capcode)) new other = bytes_bits other.streams.out.held ≡ bytes_bits new.streams.out.held
+MadeAlike (Some (Station address settings air count)) new other = SameServing air (around new) (around other)
+MadeAlike (Some command) new other = other.streams.out.held ≡ new.streams.out.held
+
+-- the line about what a command came to
+abbrev pub line_about : Outcome → List ℕ
+line_about (Ended status) = line_of status
+line_about (Refused fault) = settings_line fault
+line_about (Misread fault) = pages_line fault
+
+-- The output of errors is steady, and has room for the line about whatever the command may come to.
+pub record FitErr (command : Option Command) (old : Outside) : Type 0 where
+  pub tells : IsTrue old.err.tells
+  pub steady : IsTrue old.err.steady
+  pub room : (new : Objects) (outcome : Outcome) → Acts command old.objects new outcome → length (line_about outcome) ≤ old.err.room
+
+-- Two runs came to the same.
+pub record SameRun (command : Option Command) (new other : Outside) (result another : Status) : Type 0 where
+  pub ends_alike : another ≡ result
+  pub made_alike : MadeAlike command new.objects other.objects
+  pub err_alike : other.err.held ≡ new.err.held
+
+-- Words are one command's or none's, and over objects that are fit for it two runs that had memory come to the same.
+abbrev pub OneRun : Type 0
+OneRun = (words : List (List ℕ)) (command : Option Command) (old new other : Outside) (result another : Status) → AreCommand words command → FitRun command old.objects → FitErr command old
+    → Runs words old new result → Runs words old other another → result ≢ Memory → another ≢ Memory → SameRun command new other result another
