@@ -1,5 +1,5 @@
 -- What serving comes to where no call fails.
-use Rattle.std.proofs.Common.{◌≡◌, ℕ, ◌+◌, ◌-◌, ◌<◌, ◌≤◌, ◌⊎◌, inl, inr, suc, Bool, List, [], ◌∷◌, ◌++◌, append_assoc, length, IsTrue, refl, sym, ◌∙◌, ap, ap₂, subst, arith}
+use Rattle.std.proofs.Common.{◌≡◌, ◌≢◌, ℕ, ◌+◌, ◌-◌, ◌<◌, ◌≤◌, ◌⊎◌, inl, inr, suc, Bool, List, [], ◌∷◌, ◌++◌, append_assoc, length, IsTrue, refl, sym, ◌∙◌, ap, ap₂, subst, arith}
 use Rattle.std.proofs.lemmas.Bool.{cases_lt}
 use Rattle.air.specs.Air.{IsAir}
 use Rattle.subscribers.specs.Parts.{Parts}
@@ -10,6 +10,7 @@ use Rattle.wires.specs.Held.{Connection}
 use Rattle.wires.specs.Line.{Line, last}
 use Rattle.wires.specs.Written.{Written}
 use Rattle.station.specs.declared.session.SessionEnd.{SessionEnd}
+use Rattle.station.specs.declared.session.SessionEnd.TheVariants.{LineLost}
 use Rattle.station.specs.OneStation.{SameServing, last_count}
 use Rattle.station.specs.ReportLine.{report_line}
 use Rattle.station.specs.Served.{AllFrom, Chain, FitWire, IsAt, Served, airs, line_for, lines}
@@ -22,22 +23,22 @@ use Rattle.station.proofs.OneTalks.{Comes, same_session}
 -- a session in which no hear and no say failed
 comes_of : (settings : Parts) (spare : ℕ) (old new : Line) (c : Connection) (heard fed said : List ℕ) (session : Session) (end : SessionEnd) (stop : Stop)
     → IsTrue old.tells → IsTrue old.is_open → here old ≡ c → IsFront fed c.rest → SessionOf settings spare fed session
-    → new.hear ≡ old.hear → new.say ≡ old.say → old.hear < last_count → old.say < last_count → Stops settings spare old new heard fed said session end stop
+    → end ≢ LineLost → new.say ≡ old.say → old.say < last_count → Stops settings spare old new heard fed said session end stop
     → Comes settings spare c.rest fed session said end
-comes_of settings spare old new c heard fed said session end silent t o same front is hear say low_hear low_say h = record {
+comes_of settings spare old new c heard fed said session end silent t o same front is kept say low h = record {
   front = front;
   session_is = is;
   said_is = h.said_is;
   how = inl (record { all = h.all ∙ (sym (h.nothing_left t o) ∙ ap (λ (x : Connection). x.rest) same); no_end = h.no_end; end_is = h.end_is });
 }
-comes_of settings spare old new c heard fed said session end deaf t o same front is hear say low_hear low_say h = absurd (omega (arith, h.hear, hear, low_hear))
-comes_of settings spare old new c heard fed said session end (told answer) t o same front is hear say low_hear low_say h = record {
+comes_of settings spare old new c heard fed said session end deaf t o same front is kept say low h = absurd (kept h.end_is)
+comes_of settings spare old new c heard fed said session end (told answer) t o same front is kept say low h = record {
   front = front;
   session_is = is;
   said_is = h.said_is;
   how = inr (record { answer = answer; last_answer = h.last_answer; is_the_end = h.is_the_end; end_is = h.end_is });
 }
-comes_of settings spare old new c heard fed said session end (mute answer n) t o same front is hear say low_hear low_say h = absurd (omega (arith, h.say, say, low_say))
+comes_of settings spare old new c heard fed said session end (mute answer n) t o same front is kept say low h = absurd (omega (arith, h.say, say, low))
 
 -- The session on this connection came to what the bytes there come to, and what it said was added there.
 pub record IsGood {settings : Parts} {spare : ℕ} (first now : Line) (k : ℕ) (s : Served settings spare) : Type 0 where
@@ -47,9 +48,9 @@ pub record IsGood {settings : Parts} {spare : ℕ} (first now : Line) (k : ℕ) 
 
 -- over a fit wire each session is so
 goods : (settings : Parts) (spare : ℕ) (first now was final : Line) (k : ℕ) (ss : List (Served settings spare)) → FitWire settings spare first → first.opened ≤ k → Chain was final ss → AllFrom (IsAt first now) k ss
-    → IsTrue was.tells → IsTrue was.steady → was.hear < last_count → was.say < last_count → AllFrom (IsGood first now) k ss
-goods settings spare first now was final k [] fit le chain all t st low_hear low_say = tt
-goods settings spare first now was final k (s ∷ ss) fit le chain all t st low_hear low_say =
+    → IsTrue was.tells → IsTrue was.steady → was.say < last_count → AllFrom (IsGood first now) k ss
+goods settings spare first now was final k [] fit le chain all t st low = tt
+goods settings spare first now was final k (s ∷ ss) fit le chain all t st low =
     let at = all.0 in
     let wait = chain.0 in
     let tells : IsTrue s.before.tells = still wait.keeps.tells t in
@@ -67,14 +68,14 @@ goods settings spare first now was final k (s ∷ ss) fit le chain all t st low_
     } in (
       record {
         within = at.within;
-        comes = comes_of settings spare s.before s.after (first.connection k) s.ran.heard s.ran.fed s.ran.said s.ran.session s.end s.ran.stop tells at.was_open same heard_front s.ran.session_is well.hear well.say
-            (omega (arith, wait.counts.hear, low_hear)) (omega (arith, wait.counts.say, low_say)) s.ran.stops;
+        comes = comes_of settings spare s.before s.after (first.connection k) s.ran.heard s.ran.fed s.ran.said s.ran.session s.end s.ran.stop tells at.was_open same heard_front s.ran.session_is well.not_lost well.say
+            (omega (arith, wait.counts.say, low)) s.ran.stops;
         said =
             ap (λ (c : Connection). c.said) (at.stays ∙ ap (λ (n : ℕ). s.after.connection n) (sym number))
             ∙ (grew.said_is ∙ ap (λ (c : Connection). c.said ++ s.ran.said) same);
       },
       goods settings spare first now s.after final (k + 1) ss fit (omega (arith, le)) chain.1 all.1 (still s.ran.line.tells tells) well.steady
-          (omega (arith, well.hear, wait.counts.hear, low_hear)) (omega (arith, well.say, wait.counts.say, low_say)),
+          (omega (arith, well.say, wait.counts.say, low)),
     )
 
 -- Two lists of sessions on the same connections come to the same.
@@ -121,12 +122,12 @@ is_all : (settings : Parts) (spare most : ℕ) (old new : Around) (address name 
 is_all settings spare most old new address name t h = elim h.all [ inl e ↦ inl e | inr f ↦ inr (omega (arith, f t, h.wire.count, h.wire.opened t)) ]
 
 -- two servings over fit objects
-pub done_alike : (settings : Parts) (spare most : ℕ) (w : Line) (f f2 : Files) (o : Written ℕ) (new other : Around) (address name : List ℕ) → FitWire settings spare w → w.hear < last_count → w.say < last_count
+pub done_alike : (settings : Parts) (spare most : ℕ) (w : Line) (f f2 : Files) (o : Written ℕ) (new other : Around) (address name : List ℕ) → FitWire settings spare w → w.say < last_count
     → IsTrue f.tells → IsTrue f2.tells → IsTrue o.tells
     → AtDone settings spare (record { wire = w; shelf = f; out = o }) new address name most → AtDone settings spare (record { wire = w; shelf = f2; out = o }) other address name most → SameServing name new other
-done_alike settings spare most w f f2 o new other address name fit low_hear low_say tf tf2 to h k =
-    let g = goods settings spare w new.wire w new.wire w.opened h.sessions fit (omega arith) h.wire.chain (h.wire.served fit.tells) fit.tells fit.steady low_hear low_say in
-    let g2 = goods settings spare w other.wire w other.wire w.opened k.sessions fit (omega arith) k.wire.chain (k.wire.served fit.tells) fit.tells fit.steady low_hear low_say in
+done_alike settings spare most w f f2 o new other address name fit low tf tf2 to h k =
+    let g = goods settings spare w new.wire w new.wire w.opened h.sessions fit (omega arith) h.wire.chain (h.wire.served fit.tells) fit.tells fit.steady low in
+    let g2 = goods settings spare w other.wire w other.wire w.opened k.sessions fit (omega arith) k.wire.chain (k.wire.served fit.tells) fit.tells fit.steady low in
     let a = alike settings spare w new.wire other.wire w.opened 1 most h.sessions k.sessions g g2 h.few k.few
     (is_all settings spare most (record { wire = w; shelf = f; out = o }) new address name fit.tells h) (is_all settings spare most (record { wire = w; shelf = f2; out = o }) other address name fit.tells k) in
     record {

@@ -15,7 +15,7 @@ abbrev pub last_count : ℕ
 last_count = 2 ^ 64 - 1
 
 -- The shelf is steady and has the settings file. Where the file gives settings, wire, shelf and output are fit for serving by them,
--- and the counts of line faults aren't at their last value.
+-- and the count of say faults isn't at its last value: there a reply to an End that isn't said whole couldn't be told.
 pub record FitStation (settings air : List ℕ) (count : ℕ) (old : Around) : Type 0 where
   pub tells : IsTrue old.shelf.tells
   pub steady : IsTrue old.shelf.steady
@@ -23,7 +23,6 @@ pub record FitStation (settings air : List ℕ) (count : ℕ) (old : Around) : T
   pub wire : (parts : Parts) → settings_of (old.shelf.file settings) ≡ Ok parts → FitWire parts parts.cells old.wire
   pub shelf : (parts : Parts) → settings_of (old.shelf.file settings) ≡ Ok parts → FitShelf parts parts.cells old.wire old.shelf air count
   pub out : FitOut old.out count
-  pub hear : old.wire.hear < last_count
   pub say : old.wire.say < last_count
 
 -- What was said on each connection, the bits of the file of the air, and what the output holds are the same. What was read at a time,
