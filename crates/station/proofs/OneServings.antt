@@ -1,9 +1,11 @@
 -- What serving comes to where no call fails.
-use Rattle.std.proofs.Common.{◌≡◌, ◌≢◌, ℕ, ◌+◌, ◌-◌, ◌<◌, ◌≤◌, ◌⊎◌, inl, inr, suc, Bool, List, [], ◌∷◌, ◌++◌, append_assoc, length, IsTrue, refl, sym, ◌∙◌, ap, ap₂, subst, arith}
+use Rattle.std.proofs.Common.{◌≡◌, ◌≢◌, ℕ, ◌+◌, ◌-◌, ◌<◌, ◌≤◌, ◌⊎◌, inl, inr, suc, Bool, true, false, List, [], ◌∷◌, ◌++◌, append_assoc, length, IsTrue, refl, sym, ◌∙◌, ap, ap₂, subst, arith}
+use Rattle.std.specs.Prelude.{if◌then◌else◌}
 use Rattle.std.proofs.lemmas.Bool.{cases_lt}
 use Rattle.air.specs.Air.{IsAir}
 use Rattle.subscribers.specs.Parts.{Parts}
-use Rattle.tap_terminal.specs.Session.{Session}
+use Rattle.tap_terminal.specs.Replies.{replies}
+use Rattle.tap_terminal.specs.Session.{Session, is_end}
 use Rattle.wires.proofs.Written.{still}
 use Rattle.wires.specs.Files.{Files}
 use Rattle.wires.specs.Held.{Connection}
@@ -11,34 +13,41 @@ use Rattle.wires.specs.Line.{Line, last}
 use Rattle.wires.specs.Written.{Written}
 use Rattle.station.specs.declared.session.SessionEnd.{SessionEnd}
 use Rattle.station.specs.declared.session.SessionEnd.TheVariants.{LineLost}
-use Rattle.station.specs.OneStation.{SameServing, last_count}
+use Rattle.station.specs.OneStation.{SameServing}
 use Rattle.station.specs.ReportLine.{report_line}
 use Rattle.station.specs.Served.{AllFrom, Chain, FitWire, IsAt, Served, airs, line_for, lines}
 use Rattle.station.specs.Serving.{Around, AtDone}
-use Rattle.station.specs.Sessions.{Fits, SessionOf, Stop, Stops, deaf, mute, silent, told}
+use Rattle.station.specs.Sessions.{Fits, SessionOf, Stop, Stops, deaf, decided, mute, silent, told}
 use Rattle.station.specs.Talk.{IsFront, here}
 use Rattle.station.proofs.OneAir.{one_air}
 use Rattle.station.proofs.OneTalks.{Comes, same_session}
 
--- a session in which no hear and no say failed
+-- a session that wasn't lost where a reply was cut ended there
+mute_end : (b : Bool) (end by : SessionEnd) → end ≡ (if b then by else LineLost) → end ≢ LineLost → IsTrue b × (end ≡ by)
+mute_end true end by h n = (refl, h)
+mute_end false end by h n = absurd (n h)
+
+-- a session that wasn't lost and said all replies
 comes_of : (settings : Parts) (spare : ℕ) (old new : Line) (c : Connection) (heard fed said : List ℕ) (session : Session) (end : SessionEnd) (stop : Stop)
     → IsTrue old.tells → IsTrue old.is_open → here old ≡ c → IsFront fed c.rest → SessionOf settings spare fed session
-    → end ≢ LineLost → new.say ≡ old.say → old.say < last_count → Stops settings spare old new heard fed said session end stop
+    → end ≢ LineLost → said ≡ replies session.answers → Stops settings spare old new heard fed said session end stop
     → Comes settings spare c.rest fed session said end
-comes_of settings spare old new c heard fed said session end silent t o same front is kept say low h = record {
+comes_of settings spare old new c heard fed said session end silent t o same front is kept whole h = record {
   front = front;
   session_is = is;
   said_is = h.said_is;
   how = inl (record { all = h.all ∙ (sym (h.nothing_left t o) ∙ ap (λ (x : Connection). x.rest) same); no_end = h.no_end; end_is = h.end_is });
 }
-comes_of settings spare old new c heard fed said session end deaf t o same front is kept say low h = absurd (kept h.end_is)
-comes_of settings spare old new c heard fed said session end (told answer) t o same front is kept say low h = record {
+comes_of settings spare old new c heard fed said session end deaf t o same front is kept whole h = absurd (kept h.end_is)
+comes_of settings spare old new c heard fed said session end (told answer) t o same front is kept whole h = record {
   front = front;
   session_is = is;
   said_is = h.said_is;
   how = inr (record { answer = answer; last_answer = h.last_answer; is_the_end = h.is_the_end; end_is = h.end_is });
 }
-comes_of settings spare old new c heard fed said session end (mute answer n) t o same front is kept say low h = absurd (omega (arith, h.say, say, low))
+comes_of settings spare old new c heard fed said session end (mute answer n) t o same front is kept whole h =
+    let e = mute_end (is_end answer) end (decided session.forced) h.end_is kept in
+    record { front = front; session_is = is; said_is = whole; how = inr (record { answer = answer; last_answer = h.last_answer; is_the_end = e.0; end_is = e.1 }) }
 
 -- The session on this connection came to what the bytes there come to, and what it said was added there.
 pub record IsGood {settings : Parts} {spare : ℕ} (first now : Line) (k : ℕ) (s : Served settings spare) : Type 0 where
@@ -48,9 +57,9 @@ pub record IsGood {settings : Parts} {spare : ℕ} (first now : Line) (k : ℕ) 
 
 -- over a fit wire each session is so
 goods : (settings : Parts) (spare : ℕ) (first now was final : Line) (k : ℕ) (ss : List (Served settings spare)) → FitWire settings spare first → first.opened ≤ k → Chain was final ss → AllFrom (IsAt first now) k ss
-    → IsTrue was.tells → IsTrue was.steady → was.say < last_count → AllFrom (IsGood first now) k ss
-goods settings spare first now was final k [] fit le chain all t st low = tt
-goods settings spare first now was final k (s ∷ ss) fit le chain all t st low =
+    → IsTrue was.tells → IsTrue was.steady → AllFrom (IsGood first now) k ss
+goods settings spare first now was final k [] fit le chain all t st = tt
+goods settings spare first now was final k (s ∷ ss) fit le chain all t st =
     let at = all.0 in
     let wait = chain.0 in
     let tells : IsTrue s.before.tells = still wait.keeps.tells t in
@@ -68,14 +77,13 @@ goods settings spare first now was final k (s ∷ ss) fit le chain all t st low 
     } in (
       record {
         within = at.within;
-        comes = comes_of settings spare s.before s.after (first.connection k) s.ran.heard s.ran.fed s.ran.said s.ran.session s.end s.ran.stop tells at.was_open same heard_front s.ran.session_is well.not_lost well.say
-            (omega (arith, wait.counts.say, low)) s.ran.stops;
+        comes = comes_of settings spare s.before s.after (first.connection k) s.ran.heard s.ran.fed s.ran.said s.ran.session s.end s.ran.stop tells at.was_open same heard_front s.ran.session_is well.not_lost
+            (s.ran.whole tells at.was_open (wait.steady t st) fits) s.ran.stops;
         said =
             ap (λ (c : Connection). c.said) (at.stays ∙ ap (λ (n : ℕ). s.after.connection n) (sym number))
             ∙ (grew.said_is ∙ ap (λ (c : Connection). c.said ++ s.ran.said) same);
       },
-      goods settings spare first now s.after final (k + 1) ss fit (omega (arith, le)) chain.1 all.1 (still s.ran.line.tells tells) well.steady
-          (omega (arith, well.say, wait.counts.say, low)),
+      goods settings spare first now s.after final (k + 1) ss fit (omega (arith, le)) chain.1 all.1 (still s.ran.line.tells tells) well.steady,
     )
 
 -- Two lists of sessions on the same connections come to the same.
@@ -122,12 +130,12 @@ is_all : (settings : Parts) (spare most : ℕ) (old new : Around) (address name 
 is_all settings spare most old new address name t h = elim h.all [ inl e ↦ inl e | inr f ↦ inr (omega (arith, f t, h.wire.count, h.wire.opened t)) ]
 
 -- two servings over fit objects
-pub done_alike : (settings : Parts) (spare most : ℕ) (w : Line) (f f2 : Files) (o : Written ℕ) (new other : Around) (address name : List ℕ) → FitWire settings spare w → w.say < last_count
+pub done_alike : (settings : Parts) (spare most : ℕ) (w : Line) (f f2 : Files) (o : Written ℕ) (new other : Around) (address name : List ℕ) → FitWire settings spare w
     → IsTrue f.tells → IsTrue f2.tells → IsTrue o.tells
     → AtDone settings spare (record { wire = w; shelf = f; out = o }) new address name most → AtDone settings spare (record { wire = w; shelf = f2; out = o }) other address name most → SameServing name new other
-done_alike settings spare most w f f2 o new other address name fit low tf tf2 to h k =
-    let g = goods settings spare w new.wire w new.wire w.opened h.sessions fit (omega arith) h.wire.chain (h.wire.served fit.tells) fit.tells fit.steady low in
-    let g2 = goods settings spare w other.wire w other.wire w.opened k.sessions fit (omega arith) k.wire.chain (k.wire.served fit.tells) fit.tells fit.steady low in
+done_alike settings spare most w f f2 o new other address name fit tf tf2 to h k =
+    let g = goods settings spare w new.wire w new.wire w.opened h.sessions fit (omega arith) h.wire.chain (h.wire.served fit.tells) fit.tells fit.steady in
+    let g2 = goods settings spare w other.wire w other.wire w.opened k.sessions fit (omega arith) k.wire.chain (k.wire.served fit.tells) fit.tells fit.steady in
     let a = alike settings spare w new.wire other.wire w.opened 1 most h.sessions k.sessions g g2 h.few k.few
     (is_all settings spare most (record { wire = w; shelf = f; out = o }) new address name fit.tells h) (is_all settings spare most (record { wire = w; shelf = f2; out = o }) other address name fit.tells k) in
     record {

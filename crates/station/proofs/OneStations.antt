@@ -102,7 +102,7 @@ both_served settings address air count old new other outcome another fit h k =
     let same : k.parts ≡ h.parts = one_ok (settings_of (old.shelf.file settings)) h.parts k.parts h.settings_are k.settings_are in
     let done : AtDone h.parts h.parts.cells (with_shelf old k.shelf) other address air count = subst (λ (p : Parts). AtDone p p.cells (with_shelf old k.shelf) other address air count) same k.done in (
       k.outcome_is ∙ sym h.outcome_is,
-      done_alike h.parts h.parts.cells count old.wire h.shelf k.shelf old.out new other address air (fit.wire h.parts h.settings_are) fit.say h.tells k.tells (fit.out).tells h.done done,
+      done_alike h.parts h.parts.cells count old.wire h.shelf k.shelf old.out new other address air (fit.wire h.parts h.settings_are) h.tells k.tells (fit.out).tells h.done done,
     )
 
 -- two that are refused

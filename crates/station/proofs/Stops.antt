@@ -85,6 +85,7 @@ told settings spare old mid now before pool pool2 desk desk2 byte heard ahead a 
         not_lost = subst (λ (v : SessionEnd). v ≢ LineLost) (sym d) (not_lost h.longer.forced);
         steady = m.steady k p q (fits_fed settings spare old mid before pool pool2 desk desk2 byte heard ahead a u h k p f);
       };
+      whole = λ k p q f. sym (replies_on u.session h.longer a h.answers_are);
     }
 
 -- saying the reply failed
@@ -118,6 +119,8 @@ mute {T} settings spare old mid now before pool pool2 desk desk2 byte heard ahea
         end_is = d;
       };
       well = λ q p r f. no_cut {T = T} old mid now heard (replies u.session.answers) u.turns (reply_of a) x u.line u.calm u.open_stays s q p r
+          (fits_fed settings spare old mid before pool pool2 desk desk2 byte heard ahead a u h q p f);
+      whole = λ q p r f. no_cut {T = T} old mid now heard (replies u.session.answers) u.turns (reply_of a) x u.line u.calm u.open_stays s q p r
           (fits_fed settings spare old mid before pool pool2 desk desk2 byte heard ahead a u h q p f);
     }
 
@@ -170,6 +173,7 @@ silent {E} settings spare old mid now before pool desk heard buffer n u z j =
           end_is = refl;
         };
         well = λ k p s q. record { hear = m.hear; say = m.say; steady = m.steady k p s (fits_now settings spare old mid before pool desk heard u k p q); not_lost = λ e. absurd cc };
+        whole = λ k p s q. refl;
       },
       h.uses.is_open ∙ u.open_stays,
       h.hang ∙ u.hang,
@@ -202,6 +206,7 @@ deaf {E} settings spare old mid now before pool desk heard buffer e u h = (
       end_is = refl;
     };
     well = λ k p s q. no_deaf old mid now heard (replies u.session.answers) u.turns buffer e u.line u.calm u.open_stays h k p s (fits_now settings spare old mid before pool desk heard u k p q);
+    whole = λ k p s q. refl;
   },
   h.uses.is_open ∙ u.open_stays,
   h.hang ∙ u.hang,
@@ -249,6 +254,7 @@ hung_up settings spare old mid now before pool desk end r u o h = record {
   turns_are = u.turns_are;
   stops = stops_on settings spare old mid now u.heard u.fed u.said u.session end u.stop h.hear h.say u.stops;
   well = λ k p s f. let q = u.well k p s f in record { hear = h.hear ∙ q.hear; say = h.say ∙ q.say; steady = (h.steady (still u.line.tells k) q.steady (still o p)).1; not_lost = q.not_lost };
+  whole = u.whole;
 }
 
 -- and over a steady wire it doesn't fail

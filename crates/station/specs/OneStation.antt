@@ -1,5 +1,5 @@
 -- Two runs of `station` over the same objects, where no call fails, come to the same.
-use Rattle.std.specs.Prelude.{◌≡◌, ◌≢◌, ℕ, ◌-◌, ◌^◌, ◌<◌, List, Ok, IsTrue}
+use Rattle.std.specs.Prelude.{◌≡◌, ◌≢◌, ℕ, List, Ok, IsTrue}
 use Rattle.bits.specs.Bits.{bytes_bits}
 use Rattle.subscribers.specs.Parts.{Parts}
 use Rattle.subscribers.specs.Settings.{settings_of}
@@ -10,12 +10,7 @@ use Rattle.station.specs.Rows.{Objects, RunsStation, around}
 use Rattle.station.specs.Served.{FitOut, FitShelf, FitWire}
 use Rattle.station.specs.Serving.{Around}
 
--- the last value of a count of faults
-abbrev pub last_count : ℕ
-last_count = 2 ^ 64 - 1
-
--- The shelf is steady and has the settings file. Where the file gives settings, wire, shelf and output are fit for serving by them,
--- and the count of say faults isn't at its last value: there a reply to an End that isn't said whole couldn't be told.
+-- The shelf is steady and has the settings file. Where the file gives settings, wire, shelf and output are fit for serving by them.
 pub record FitStation (settings air : List ℕ) (count : ℕ) (old : Around) : Type 0 where
   pub tells : IsTrue old.shelf.tells
   pub steady : IsTrue old.shelf.steady
@@ -23,7 +18,6 @@ pub record FitStation (settings air : List ℕ) (count : ℕ) (old : Around) : T
   pub wire : (parts : Parts) → settings_of (old.shelf.file settings) ≡ Ok parts → FitWire parts parts.cells old.wire
   pub shelf : (parts : Parts) → settings_of (old.shelf.file settings) ≡ Ok parts → FitShelf parts parts.cells old.wire old.shelf air count
   pub out : FitOut old.out count
-  pub say : old.wire.say < last_count
 
 -- What was said on each connection, the bits of the file of the air, and what the output holds are the same. What was read at a time,
 -- and how far a connection was read beyond the end of its session, may differ.

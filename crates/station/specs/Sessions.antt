@@ -135,6 +135,7 @@ pub record Ran (settings : Parts) (spare : ℕ) (old new : Line) (before after :
   pub turns_are : AllByRecursion (IsTurn settings spare (here old) heard said) turns
   pub stops : Stops settings spare old new heard fed said session end stop
   pub well : IsTrue old.tells → IsTrue old.is_open → IsTrue old.steady → Fits settings spare (here old) → IsWell old new end
+  pub whole : IsTrue old.tells → IsTrue old.is_open → IsTrue old.steady → Fits settings spare (here old) → said ≡ replies session.answers
 
 -- The connection was hung up: no connection is open. Over a steady and fit wire that didn't fail.
 pub record Closes (settings : Parts) (spare : ℕ) (old new : Line) : Type 0 where
