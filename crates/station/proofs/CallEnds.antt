@@ -96,7 +96,7 @@ module _ (told : Told) (old mid now : Line) (stage : Stage) (left : ℕ) (done :
           line = talked_speaks old mid now heard u.said u.turns m.piece _ u.line u.open_stays m.spoke;
           turns_are = turns_on told (here old) heard u.said heard (u.said ++ m.piece) u.turns (front_same heard) (front_append u.said m.piece) u.turns_are;
           stops = record { reason = m.stands; said_is = refl; hear = q.hear; say = q.say; ending_is = refl };
-          well = λ k p s r. record { hear = q.hear; say = q.say; steady = q.steady k p s (fits2 left2 e (u.said ++ m.piece) m.marks _ m.marks_are m.client k p r) };
+          well = λ k p s r. record { hear = q.hear; say = q.say; steady = q.steady k p s (fits2 left2 e (u.said ++ m.piece) m.marks _ m.marks_are m.client k p r); over = refl };
         };
         open_stays = m.spoke.around.is_open ∙ u.open_stays;
         hang = m.spoke.around.hang ∙ u.hang;
@@ -176,7 +176,7 @@ too_many told old now stage left done byte heard ahead logon u z e = subst (λ l
         line = u.line;
         turns_are = u.turns_are;
         stops = record { reason = all; said_is = refl; hear = u.calm.hear; say = u.calm.say; ending_is = refl };
-        well = λ k p s r. record { hear = u.calm.hear; say = u.calm.say; steady = u.calm.steady k p s (fits_now told old now stage left done heard (byte ∷ ahead) u k p r) };
+        well = λ k p s r. record { hear = u.calm.hear; say = u.calm.say; steady = u.calm.steady k p s (fits_now told old now stage left done heard (byte ∷ ahead) u k p r); over = refl };
       };
       open_stays = u.open_stays;
       hang = u.hang;
@@ -248,7 +248,7 @@ silent {E} told old mid now stage left done heard buffer n logon u z j e =
           say = m.say;
           ending_is = refl;
         };
-        well = λ k p s r. record { hear = m.hear; say = m.say; steady = m.steady k p s (fits_now told old mid stage left done heard [] u k p r) };
+        well = λ k p s r. record { hear = m.hear; say = m.say; steady = m.steady k p s (fits_now told old mid stage left done heard [] u k p r); over = refl };
       };
       open_stays = h.uses.is_open ∙ u.open_stays;
       hang = h.hang ∙ u.hang;

@@ -1,5 +1,5 @@
 -- A call from dialling to hanging up, and the statuses of sending pages.
-use Rattle.std.proofs.Common.{◌≡◌, ◌⊎◌, inl, inr, ℕ, ◌-◌, ◌*◌, ◌≤◌, ◌<◌, Bool, true, false, List, [], ◌∷◌, length, suc, Option, Result, Ok, Err, IsTrue, refl, sym, ◌∙◌, ap, subst, arith}
+use Rattle.std.proofs.Common.{◌≡◌, ◌≢◌, ◌⊎◌, inl, inr, ℕ, ◌-◌, ◌*◌, ◌≤◌, ◌<◌, Bool, true, false, List, [], ◌∷◌, length, suc, Option, Result, Ok, Err, IsTrue, refl, sym, ◌∙◌, ap, subst, arith}
 use Rattle.std.proofs.lemmas.List.{length-map}
 use Rattle.tap_entry.specs.declared.hearing.Mark.{Mark}
 use Rattle.tap_entry.specs.declared.outcomes.Outcome.{Outcome}
@@ -18,7 +18,7 @@ use Rattle.station.specs.declared.stages.Ending.TheVariants.{Over, Lost}
 use Rattle.station.specs.declared.stages.Logon.{Logon}
 use Rattle.station.specs.declared.stages.Logon.TheVariants.{Pending, Granted}
 use Rattle.station.specs.declared.statuses.Status.{Status}
-use Rattle.station.specs.declared.statuses.Status.TheVariants.{OutFault}
+use Rattle.station.specs.declared.statuses.Status.TheVariants.{OutFault, WireFault}
 use Rattle.station.specs.Calls.{CallsUp, HungUp, IsDialled, NoneRose, PutLines, HasSent, SendsSo, SomeRose, WentWell, status_of}
 use Rattle.station.specs.Conversations.{Came, HasRoom, Held, Stop, Stops, deaf as is_deaf, long as is_long, mute as is_mute, silent as is_silent, through as is_through}
 use Rattle.station.specs.OutcomeLines.{all_sent, outcome_lines}
@@ -106,11 +106,11 @@ hung_up told old mid now outcomes ending r u o h = record {
   };
   turns_are = u.turns_are;
   stops = stops_on told old mid now u.heard u.fed u.marks u.due u.said ending u.stop h.hear h.say u.stops;
-  well = λ k p s f. let q = u.well k p s f in record { hear = h.hear ∙ q.hear; say = h.say ∙ q.say; steady = (h.steady (still u.line.tells k) q.steady (still o p)).1 };
+  well = λ k p s f. let q = u.well k p s f in record { hear = h.hear ∙ q.hear; say = h.say ∙ q.say; steady = (h.steady (still u.line.tells k) q.steady (still o p)).1; over = q.over };
 }
 
 -- the connection that was dialled is the next one
-next_here : (address : List ℕ) (a b : Line) → IsDialled address a b → IsTrue a.tells → here b ≡ a.connection a.opened
+pub next_here : (address : List ℕ) (a b : Line) → IsDialled address a b → IsTrue a.tells → here b ≡ a.connection a.opened
 next_here address a b d t = ap b.connection (let e = (d.opened t).1 in let q : b.opened - 1 ≡ a.opened = omega (arith, e) in q) ∙ d.connections a.opened
 
 room_there : (told : Told) (address : List ℕ) (a b : Line) → IsDialled address a b → IsTrue a.tells → HasRoom told (a.connection a.opened) → HasRoom told (here b)
@@ -127,7 +127,9 @@ called_so told address a b c d outcomes spoke x o h u = inl (record {
   logon = h.came.logon;
   shut = λ t. u.shut (still h.came.line.tells (still o.tells t));
   hung = inl (refl, u.cause.kept ∙ (h.hang ∙ o.others.hang));
-  well = λ t s lt r. u.cause.kept ∙ (h.hang ∙ o.others.hang);
+  well = λ t s lt r.
+      let q = h.came.well (still o.tells t) (o.opened t).2 (o.steady t s lt) (room_there told address a b o t r) in
+      (u.cause.kept ∙ (h.hang ∙ o.others.hang), (u.steady (still h.came.line.tells (still o.tells t)) q.steady (still h.open_stays (o.opened t).2)).1, q.over);
 })
 
 pub called_unhung : {T E : Type 0} (told : Told) (address : List ℕ) (a b c d : Line) (outcomes : List Outcome) (spoke : Ending) (logon : Logon) (e : E) → IsDialled address a b → Held told b c outcomes spoke → HangsUp {T = T} c d (Err e) → logon ≡ logon_of spoke
@@ -146,12 +148,35 @@ called_unhung {T} {E} told address a b c d outcomes spoke logon e o h u l = subs
       no_ok T E e (u.steady (still h.came.line.tells (still o.tells t)) q.steady (still h.open_stays (o.opened t).2)).0;
 }))
 
+over_status : (logon : Logon) (b : Bool) → status_of (Over logon) b ≢ WireFault
+over_status Pending b e = cc
+over_status Granted true e = cc
+over_status Granted false e = cc
+
+-- no status of an ending is OutFault
+not_out : (ending : Ending) (b : Bool) → status_of ending b ≢ OutFault
+not_out (Lost logon) b e = cc
+not_out (Over Pending) b e = cc
+not_out (Over Granted) true e = cc
+not_out (Over Granted) false e = cc
+
 -- no count rose where the wire is steady and fit
 none_rose : (told : Told) (address : List ℕ) (a d : Line) (outcomes : List Outcome) (ending : Ending) → CallsUp told address a d outcomes ending → IsTrue a.tells → IsTrue a.steady → a.opened < a.count → HasRoom told (a.connection a.opened) → NoneRose a d
 none_rose told address a d outcomes ending (inl h) t s lt r =
     let q = h.came.well (still h.opens.tells t) (h.opens.opened t).2 (h.opens.steady t s lt) (room_there told address a h.dialled h.opens t r) in
-    record { gate = h.came.line.gate ∙ h.opens.gate; hear = q.hear ∙ h.opens.others.hear; say = q.say ∙ h.opens.others.say; hang = h.well t s lt r }
+    record { gate = h.came.line.gate ∙ h.opens.gate; hear = q.hear ∙ h.opens.others.hear; say = q.say ∙ h.opens.others.say; hang = (h.well t s lt r).0 }
 none_rose told address a d outcomes ending (inr h) t s lt r = absurd (h.failed.unsteady t s lt)
+
+-- the wire is steady there
+steady_after : (told : Told) (address : List ℕ) (a d : Line) (outcomes : List Outcome) (ending : Ending) → CallsUp told address a d outcomes ending → IsTrue a.tells → IsTrue a.steady → a.opened < a.count → HasRoom told (a.connection a.opened) → IsTrue d.steady
+steady_after told address a d outcomes ending (inl h) t s lt r = (h.well t s lt r).1
+steady_after told address a d outcomes ending (inr h) t s lt r = absurd (h.failed.unsteady t s lt)
+
+-- the call isn't lost there
+not_lost : (told : Told) (address : List ℕ) (a d : Line) (outcomes : List Outcome) (ending : Ending) (b : Bool) → CallsUp told address a d outcomes ending → IsTrue a.tells → IsTrue a.steady → a.opened < a.count → HasRoom told (a.connection a.opened)
+    → status_of ending b ≢ WireFault
+not_lost told address a d outcomes ending b (inl h) t s lt r e = over_status (logon_of ending) b (ap (λ z. status_of z b) (sym (h.well t s lt r).2) ∙ e)
+not_lost told address a d outcomes ending b (inr h) t s lt r e = absurd (h.failed.unsteady t s lt)
 
 -- no count rose where the call is over
 over_counts : (told : Told) (old new : Line) (heard fed : List ℕ) (marks : List Mark) (due said : List ℕ) (logon : Logon) (stop : Stop) → Stops told old new heard fed marks due said (Over logon) stop → (new.hear ≡ old.hear) × (new.say ≡ old.say)
@@ -225,7 +250,7 @@ calls_many told address a d outcomes ending (inl h) = client_many told.password 
 calls_many told address a d outcomes ending (inr h) = ap length h.outcomes_are ∙ length-map told.pages (λ _. NoLogon)
 
 -- the lines fit in 20 bytes a page
-lines_fit : (told : Told) (address : List ℕ) (a d : Line) (outcomes : List Outcome) (ending : Ending) (room : ℕ) → CallsUp told address a d outcomes ending → length told.pages ≤ 1000 → 20 * length told.pages ≤ room → length (outcome_lines outcomes) ≤ room
+pub lines_fit : (told : Told) (address : List ℕ) (a d : Line) (outcomes : List Outcome) (ending : Ending) (room : ℕ) → CallsUp told address a d outcomes ending → length told.pages ≤ 1000 → 20 * length told.pages ≤ room → length (outcome_lines outcomes) ≤ room
 lines_fit told address a d outcomes ending room h few fits =
     let n = calls_many told address a d outcomes ending h in
     let l = lines_few outcomes 1 (omega (arith, n, few)) in
@@ -244,8 +269,8 @@ pub sent_so : {T E : Type 0} (told : Told) (address : List ℕ) (a d : Line) (ou
 sent_so told address a d out0 out1 outcomes ending x status h p e = record {
   outcomes = outcomes;
   sends = subst (SendsSo told address a d out0 out1 outcomes) (sym e) (sends_by told address a d out0 out1 outcomes ending (all_sent outcomes) refl h (record { tells = p.tells; held = p.held; faults = p.faults.kept; lent = p.lent }));
-  wire_well = none_rose told address a d outcomes ending h;
-  out_well = λ t s f. p.faults.kept;
+  wire_well = λ t s lt r. (none_rose told address a d outcomes ending h t s lt r, steady_after told address a d outcomes ending h t s lt r, λ z. not_lost told address a d outcomes ending (all_sent outcomes) h t s lt r (sym e ∙ z));
+  out_well = λ t s f. (p.faults.kept, λ z. not_out ending (all_sent outcomes) (sym e ∙ z));
 }
 
 -- a put failed
@@ -254,6 +279,6 @@ pub unput_so : {T E : Type 0} (told : Told) (address : List ℕ) (a d : Line) (o
 unput_so {T} {E} told address a d out0 out1 outcomes ending x few h p = record {
   outcomes = outcomes;
   sends = ((ending, h), record { tells = p.tells; held = p.held; faults = p.faults.failed; lent = p.lent; unsteady = λ t s f. no_ok T E x (p.steady t s f).0 });
-  wire_well = none_rose told address a d outcomes ending h;
+  wire_well = λ t s lt r. (none_rose told address a d outcomes ending h t s lt r, steady_after told address a d outcomes ending h t s lt r, λ z. cc);
   out_well = λ t s f. no_ok T E x (p.steady t s (lines_fit told address a d outcomes ending out0.room h few f)).0;
 }

@@ -62,6 +62,7 @@ pub mod OneTalks
 pub mod OneServings
 pub mod OneStations
 pub mod OneTrials
+pub mod OneSends
 pub mod OneCommands
 pub mod OneRuns
 pub mod OneSettings

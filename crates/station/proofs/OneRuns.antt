@@ -15,6 +15,7 @@ use Rattle.station.specs.Statuses.{line_of}
 use Rattle.station.proofs.OneCommands.{one_command}
 use Rattle.station.proofs.OneOfOne.{one_one}
 use Rattle.station.proofs.OneOutcomes.{one_play, one_show}
+use Rattle.station.proofs.OneSends.{one_send}
 use Rattle.station.proofs.OneStations.{one_station}
 use Rattle.station.proofs.OneTrials.{one_trial}
 
@@ -79,7 +80,7 @@ acts_alike (Some (Show air)) old new other outcome another fit h k some some2 =
     came_alike _ _ outcome another (λ s t a b n m. let r = one_show air old new other s t fit.0 fit.1 a b in (r.ends_alike, r.makes_alike)) h k some some2
 acts_alike (Some (Station address settings air count)) old new other outcome another fit h k some some2 = one_station address settings air count old new other outcome another fit h k some some2
 acts_alike (Some (Trial settings noise capcodes)) old new other outcome another fit h k some some2 = one_trial settings noise capcodes old new other outcome another fit h k some some2
-acts_alike (Some (Send address pages)) old new other outcome another fit h k some some2 = absurd fit
+acts_alike (Some (Send address pages)) old new other outcome another fit h k some some2 = one_send address pages old new other outcome another fit h k some some2
 
 -- a run that had memory came to something else
 had_memory : (outcome : Outcome) (result : Status) → result ≡ result_of outcome → result ≢ Memory → outcome ≢ Ended Memory

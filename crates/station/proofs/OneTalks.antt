@@ -23,7 +23,7 @@ front_cons : {A : Type 0} (x y : A) (a b : List A) → y ≡ x → IsFront a b �
 front_cons x y a b e h = record { rest = h.rest; is = ap₂ (λ (z : _) (l : List _). z ∷ l) e h.is }
 
 -- one of two fronts of a list is a front of the other
-fronts_of : {A : Type 0} (a b p q : List A) → a ++ p ≡ b ++ q → IsFront a b ⊎ IsFront b a
+pub fronts_of : {A : Type 0} (a b p q : List A) → a ++ p ≡ b ++ q → IsFront a b ⊎ IsFront b a
 fronts_of [] b p q e = inl (front_append [] b)
 fronts_of (x ∷ a) [] p q e = inr (front_append [] (x ∷ a))
 fronts_of (x ∷ a) (y ∷ b) p q e =

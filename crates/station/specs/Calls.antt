@@ -1,5 +1,5 @@
 -- A call that sends pages, from dialling to hanging up, and the statuses of the command that makes it.
-use Rattle.std.specs.Prelude.{◌≡◌, ◌⊎◌, ℕ, ◌+◌, ◌*◌, ◌≤◌, ◌<◌, Bool, List, ◌++◌, length, if◌then◌else◌, take, IsTrue, IsFalse}
+use Rattle.std.specs.Prelude.{◌≡◌, ◌≢◌, ◌⊎◌, ℕ, ◌+◌, ◌*◌, ◌≤◌, ◌<◌, Bool, List, ◌++◌, length, if◌then◌else◌, take, IsTrue, IsFalse}
 use Rattle.tap_entry.specs.declared.outcomes.Outcome.{Outcome}
 use Rattle.tap_entry.specs.declared.outcomes.Outcome.TheVariants.{NoLogon}
 use Rattle.tap_entry.specs.Client.{all_are}
@@ -56,7 +56,7 @@ pub record HasCalled (told : Told) (address : List ℕ) (old new : Line) (outcom
   pub logon : IsLogon (logon_of ending) came.marks
   pub shut : IsTrue old.tells → IsFalse new.is_open
   pub hung : HungUp old new spoke ending
-  pub well : IsTrue old.tells → IsTrue old.steady → old.opened < old.count → HasRoom told (old.connection old.opened) → new.hang ≡ old.hang
+  pub well : IsTrue old.tells → IsTrue old.steady → old.opened < old.count → HasRoom told (old.connection old.opened) → (new.hang ≡ old.hang) × IsTrue new.steady × (ending ≡ Over (logon_of ending))
 
 -- No connection was dialled to this address, and every page is NoLogon.
 pub record HasNotCalled (told : Told) (address : List ℕ) (old new : Line) (outcomes : List Outcome) (ending : Ending) : Type 0 where
@@ -114,10 +114,10 @@ SendsSo told address old new out0 out1 outcomes WireFault = ((ending : Ending) �
 SendsSo told address old new out0 out1 outcomes OutFault = ((ending : Ending) × CallsUp told address old new outcomes ending) × PutFront out0 out1 outcomes
 SendsSo told address old new out0 out1 outcomes other = ⊥
 
--- Pages were sent to this address: these became their outcomes. Over a steady wire with a connection left that has room for what is due, and a steady
--- output with room for the lines, no count of faults rose.
+-- Pages were sent to this address: these became their outcomes. Over a steady wire with a connection left that has room for what is due, no count of
+-- faults rose, the wire is steady, and the status isn't WireFault. Over a steady output with room for the lines none rose, and the status isn't OutFault.
 pub record HasSent (told : Told) (address : List ℕ) (old new : Line) (out0 out1 : Written ℕ) (status : Status) : Type 0 where
   pub outcomes : List Outcome
   pub sends : SendsSo told address old new out0 out1 outcomes status
-  pub wire_well : IsTrue old.tells → IsTrue old.steady → old.opened < old.count → HasRoom told (old.connection old.opened) → NoneRose old new
-  pub out_well : IsTrue out0.tells → IsTrue out0.steady → 20 * length told.pages ≤ out0.room → out1.faults ≡ out0.faults
+  pub wire_well : IsTrue old.tells → IsTrue old.steady → old.opened < old.count → HasRoom told (old.connection old.opened) → NoneRose old new × IsTrue new.steady × (status ≢ WireFault)
+  pub out_well : IsTrue out0.tells → IsTrue out0.steady → 20 * length told.pages ≤ out0.room → (out1.faults ≡ out0.faults) × (status ≢ OutFault)

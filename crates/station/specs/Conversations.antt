@@ -104,11 +104,12 @@ Stops told old new heard fed marks due said ending mute = IsMute told old new fe
 abbrev pub HasRoom : Told → Connection → Type 0
 HasRoom told c = (front said : List ℕ) → IsFront front c.rest → IsWithinDue told front → IsSaidFor told front said → length said ≤ c.room
 
--- No hear and no say failed, and the wire is steady.
-pub record IsWell (old new : Line) : Type 0 where
+-- No hear and no say failed, the wire is steady, and the call wasn't lost.
+pub record IsWell (old new : Line) (ending : Ending) : Type 0 where
   pub hear : new.hear ≡ old.hear
   pub say : new.say ≡ old.say
   pub steady : IsTrue new.steady
+  pub over : ending ≡ Over (logon_of ending)
 
 -- A call came to its end: what was heard, the front of it that was due and its marks, what the definition of the client says for these,
 -- what was said, the turns, and why it stopped. The outcomes are those of the marks.
@@ -128,7 +129,7 @@ pub record Came (told : Told) (old new : Line) (outcomes : List Outcome) (ending
   pub line : Talked old new heard said turns
   pub turns_are : AllByRecursion (IsTurnOf told (here old) heard said) turns
   pub stops : Stops told old new heard fed marks due said ending stop
-  pub well : IsTrue old.tells → IsTrue old.is_open → IsTrue old.steady → HasRoom told (here old) → IsWell old new
+  pub well : IsTrue old.tells → IsTrue old.is_open → IsTrue old.steady → HasRoom told (here old) → IsWell old new ending
 
 -- A call came to its end, and the connection is still open.
 pub record Held (told : Told) (old new : Line) (outcomes : List Outcome) (ending : Ending) : Type 0 where

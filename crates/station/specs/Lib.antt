@@ -38,4 +38,5 @@ pub mod Delivered
 pub mod OneOutcome
 pub mod OneStation
 pub mod OneTrial
+pub mod OneSend
 pub mod OneRun

@@ -7,6 +7,7 @@ use Rattle.station.specs.declared.statuses.Status.{Status}
 use Rattle.station.specs.declared.statuses.Status.TheVariants.{Memory}
 use Rattle.station.specs.Commands.{AreCommand, Command, One, Play, Send, Show, Station, Trial}
 use Rattle.station.specs.OneOutcome.{FitFile, FitFor, FitOne, bits_listened}
+use Rattle.station.specs.OneSend.{FitSend, SameSending}
 use Rattle.station.specs.OneStation.{FitStation, SameServing}
 use Rattle.station.specs.OneTrial.{FitTrial}
 use Rattle.station.specs.Outcomes.{pages_line, settings_line}
@@ -15,7 +16,7 @@ use Rattle.station.specs.Rows.{Acts, Objects, Outside, Runs, around}
 use Rattle.station.specs.Statuses.{line_of}
 use Rattle.station.specs.Table.{table_of}
 
--- The objects are fit for a command. Of `send` nothing is said.
+-- the objects are fit for a command
 abbrev pub FitRun : Option Command → Objects → Type 0
 FitRun None old = Unit {0}
 FitRun (Some (One capcode)) old = FitOne capcode old.streams
@@ -23,13 +24,14 @@ FitRun (Some (Play air capcodes)) old = FitFile air old.shelf × FitFor old.stre
 FitRun (Some (Show air)) old = FitFile air old.shelf × FitFor old.streams.out (table_of (bits_listened air old.shelf))
 FitRun (Some (Station address settings air count)) old = FitStation settings air count (around old)
 FitRun (Some (Trial settings noise capcodes)) old = FitTrial settings noise capcodes old.shelf old.streams
-FitRun (Some (Send address pages)) old = ⊥
+FitRun (Some (Send address pages)) old = FitSend pages (around old)
 
 -- what two runs of a command made is the same
 abbrev pub MadeAlike : Option Command → Objects → Objects → Type 0
 MadeAlike None new other = other ≡ new
 MadeAlike (Some (One capcode)) new other = bytes_bits other.streams.out.held ≡ bytes_bits new.streams.out.held
 MadeAlike (Some (Station address settings air count)) new other = SameServing air (around new) (around other)
+MadeAlike (Some (Send address pages)) new other = SameSending (around new) (around other)
 MadeAlike (Some command) new other = other.streams.out.held ≡ new.streams.out.held
 
 -- the line about what a command came to

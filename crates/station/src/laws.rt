@@ -9,6 +9,7 @@ ghost use Rattle.station.specs.LoneBlock.{HasText, IsMarkedBlock};
 ghost use Rattle.station.specs.NearAir.{CleanAir, NearAir};
 ghost use Rattle.station.specs.OneOutcome.{OneOne, OnePlay, OneShow};
 ghost use Rattle.station.specs.OneRun.{OneRun};
+ghost use Rattle.station.specs.OneSend.{OneSend};
 ghost use Rattle.station.specs.OneStation.{OneStation};
 ghost use Rattle.station.specs.OneTrial.{OneTrial};
 
@@ -45,12 +46,14 @@ pub fn accepted_pages()
     ensures { AreAcceptable }
 {}
 
-/// Where no call fails, and there is memory, what a command comes to is determined: its status, and what the output holds.
+/// Where no call fails, and there is memory, what a command comes to is determined: its status, what was said on each connection, and
+/// what the output holds.
 pub fn one_outcome()
     ensures play { OnePlay }
     ensures show { OneShow }
     ensures one { OneOne }
     ensures station { OneStation }
     ensures trial { OneTrial }
+    ensures send { OneSend }
     ensures run { OneRun }
 {}

@@ -1,6 +1,7 @@
 use Rattle.station.proofs.OneOfOne.{one_one}
 use Rattle.station.proofs.OneOutcomes.{one_play, one_show}
 use Rattle.station.proofs.OneRuns.{one_run}
+use Rattle.station.proofs.OneSends.{one_send}
 use Rattle.station.proofs.OneStations.{one_station}
 use Rattle.station.proofs.OneTrials.{one_trial}
 use Rattle.station.proofs.laws.one_outcome.Goals as goal
@@ -19,6 +20,9 @@ returns-clause-station c = one_station
 
 pub returns-clause-trial : goal.returns-clause-trial
 returns-clause-trial c = one_trial
+
+pub returns-clause-send : goal.returns-clause-send
+returns-clause-send c = one_send
 
 pub returns-clause-run : goal.returns-clause-run
 returns-clause-run c = one_run
