@@ -63,6 +63,7 @@ pub mod OneServings
 pub mod OneStations
 pub mod OneTrials
 pub mod OneSends
+pub mod AirRooms
 pub mod OneCommands
 pub mod OneRuns
 pub mod OneSettings

@@ -39,4 +39,5 @@ pub mod OneOutcome
 pub mod OneStation
 pub mod OneTrial
 pub mod OneSend
+pub mod AirRoom
 pub mod OneRun

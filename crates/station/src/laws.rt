@@ -3,6 +3,7 @@
 
 ghost use Rattle.std.specs.Prelude.{◌≡◌, ℕ, Bool, List};
 ghost use Rattle.station.specs.AcceptedPages.{AreAcceptable};
+ghost use Rattle.station.specs.AirRoom.{AirsFit, ShelfFits};
 ghost use Rattle.station.specs.Delivered.{Delivered};
 ghost use Rattle.station.specs.Joined.{BothEnds};
 ghost use Rattle.station.specs.LoneBlock.{HasText, IsMarkedBlock};
@@ -56,4 +57,10 @@ pub fn one_outcome()
     ensures trial { OneTrial }
     ensures send { OneSend }
     ensures run { OneRun }
+{}
+
+/// The room that a station's air takes, by its cells and connections. So an operator knows that a shelf is fit.
+pub fn air_room()
+    ensures airs { AirsFit }
+    ensures shelf { ShelfFits }
 {}

@@ -1,0 +1,172 @@
+-- How much room a station's air takes.
+use Rattle.std.proofs.Common.{◌≡◌, ℕ, suc, ◌+◌, ◌*◌, ◌/◌, ◌≤◌, Bool, true, false, cond, not, nat_lt, List, [], ◌∷◌, ◌++◌, length, length-append, map, Option, Some, None, refl, sym, ap, subst, arith}
+use Rattle.std.proofs.lemmas.Bool.{ltb-false}
+use Rattle.std.proofs.lemmas.List.{length-map}
+use Rattle.std.proofs.lemmas.List.Sums.{sum_by-cons}
+use Rattle.std.proofs.Math.Nat.{mul-le-mul_right}
+use Rattle.std.specs.List.{cons_option, sum_by}
+use Rattle.air.specs.Air.{IsAir, batches, preamble, transmission}
+use Rattle.air.proofs.Batches.{length-batches}
+use Rattle.bits.proofs.Lengths.{length-words_bits}
+use Rattle.codeword.specs.Words.{message_of}
+use Rattle.codeword.specs.declared.functions.Function.{Function}
+use Rattle.codeword.specs.declared.functions.Function.TheVariants.{Numeric, Tone1, Tone2, Alpha}
+use Rattle.page_pool.specs.Cells.{cells_for, cells_of}
+use Rattle.page_text.specs.Groups.{groups, numeric_code}
+use Rattle.page_text.specs.Page.{Page}
+use Rattle.page_text.proofs.Groups.{length-groups_of}
+use Rattle.scheduler.specs.Slots.{run}
+use Rattle.scheduler.proofs.Schedules.{few_slots}
+use Rattle.subscribers.specs.Parts.{Parts}
+use Rattle.subscribers.specs.declared.subscriber.Subscriber.{Subscriber}
+use Rattle.tap_block.specs.Fields.{parts_of}
+use Rattle.tap_block.specs.Reading.{Entry, empty_line, logon, wrong_line, a_block, a_bye, items_of}
+use Rattle.tap_block.specs.declared.ends.End.{End}
+use Rattle.tap_block.specs.declared.ends.End.TheVariants.{Etx, Etb, Us}
+use Rattle.tap_terminal.specs.Desk.{directory_of}
+use Rattle.tap_terminal.specs.Session.{Course, Decided, Session, Told, cells_for_page, decide, is_end, pages_of, start, tell}
+use Rattle.tap_terminal.specs.Texts.{fits}
+use Rattle.tap_terminal.specs.Verdict.{Directory, Verdict, by_end, fields_for, refused, room_for, text_for, values_of, verdict}
+use Rattle.tap_terminal.specs.declared.answers.Answer.TheVariants.{Ack, Nak}
+use Rattle.tap_terminal.specs.declared.answers.Reason.TheVariants.{Body, Content, Room, Text}
+use Rattle.station.specs.AirRoom.{AirsFit, ShelfFits, most_air}
+use Rattle.station.specs.Served.{airs}
+use Rattle.station.specs.Sessions.{SessionOf}
+
+-- ---- the words of a page, by its cells
+
+-- a text of n characters has at most 12 groups a cell
+cells_hold : (n : ℕ) → (n ≤ 32 * cells_for n) × (1 ≤ cells_for n)
+cells_hold n = (omega arith, omega arith)
+
+groups_few : (function : Function) (text : List ℕ) → length (groups function text) ≤ 12 * cells_for (length text)
+groups_few Numeric text = let h = cells_hold (length text) in let a = h.0 in let b = h.1 in omega (arith, length-groups_of 4 12 (map numeric_code text), length-map text numeric_code, a, b)
+groups_few Tone1 text = omega arith
+groups_few Tone2 text = omega arith
+groups_few Alpha text = let h = cells_hold (length text) in let a = h.0 in let b = h.1 in omega (arith, length-groups_of 7 0 text, a, b)
+
+run_few : (page : Page) → length (run page) ≤ 1 + 12 * cells_of page
+unfolding run
+run_few page = omega (arith, length-map (groups page.function page.text) message_of, groups_few page.function page.text)
+
+-- pages take at least a cell each
+runs_few : (pages : List Page) → (sum_by (λ page. length (run page)) pages ≤ length pages + 12 * sum_by cells_of pages) × (length pages ≤ sum_by cells_of pages)
+runs_few [] = (omega arith, omega arith)
+runs_few (page ∷ pages) =
+    let on = runs_few pages in
+    let a = on.0 in
+    let b = on.1 in
+    let c = (cells_hold (length page.text)).1 in (
+      omega (arith, a, run_few page, sum_by-cons (λ (p : Page). length (run p)) page pages, sum_by-cons cells_of page pages),
+      omega (arith, b, c, sum_by-cons cells_of page pages),
+    )
+
+-- ---- the bits of a transmission, by the cells of its pages
+
+length-preamble : length preamble ≡ 18
+unfolding preamble
+length-preamble = refl
+
+length-transmission : (slots : List ℕ) → length (transmission slots) ≡ 18 + 17 * (length slots / 16)
+length-transmission slots = omega (arith, length-append preamble (batches (length slots / 16) slots), length-preamble, length-batches (length slots / 16) slots (omega arith))
+
+air_few : (pages : List Page) (bits : List Bool) (spare : ℕ) → IsAir pages bits → sum_by cells_of pages ≤ spare → length bits ≤ 8 * most_air spare
+air_few [] bits spare h le = omega (arith, ap length h)
+air_few (page ∷ pages) bits spare h le =
+    let f = few_slots (page ∷ pages) h.0 (λ e. absurd cc) h.1 in
+    let r = runs_few (page ∷ pages) in
+    let a = r.0 in
+    let b = r.1 in
+    let n : length h.0 ≤ 27 * spare + 16 = omega (arith, f, a, b, le) in
+    omega (arith, ap length h.2, length-words_bits (transmission h.0), length-transmission h.0, n)
+
+-- ---- the cells of a session's pages
+
+abbrev IsWithin : ℕ → Option Page → Type 0
+IsWithin spare o = cells_for_page o ≤ spare
+
+within-cond : (b : Bool) (spare : ℕ) (v w : Verdict) → IsWithin spare v.page → IsWithin spare w.page → IsWithin spare (cond b v w).page
+within-cond true spare v w h k = h
+within-cond false spare v w h k = k
+
+within-room_for : (s : Subscriber) (text : List ℕ) (spare : ℕ) → IsWithin spare (room_for s text spare).page
+within-room_for s text spare = by_test (nat_lt spare (cells_for (length text))) refl
+  where
+    by_test : (b : Bool) → nat_lt spare (cells_for (length text)) ≡ b → IsWithin spare (cond b (refused Room) (record { answer = Ack; joined = []; page = Some (record { capcode = s.capcode; function = s.function; text = text }) })).page
+    by_test true e = omega arith
+    by_test false e = ltb-false spare (cells_for (length text)) e
+
+within-text_for : (o : Option Subscriber) (text : List ℕ) (spare : ℕ) → IsWithin spare (text_for o text spare).page
+within-text_for None text spare = omega arith
+within-text_for (Some s) text spare = within-cond (fits s.function text) spare (room_for s text spare) (refused Text) (within-room_for s text spare) (omega arith)
+
+module _ (directory : Directory) where
+  within-fields_for : (spare : ℕ) (o : Option (List ℕ × List ℕ)) → IsWithin spare (fields_for directory spare o).page
+  within-fields_for spare None = omega arith
+  within-fields_for spare (Some p) = within-text_for (directory p.0) p.1 spare
+
+  within-by_end : (spare : ℕ) (e : End) (content : List ℕ) → IsWithin spare (by_end directory spare e content).page
+  within-by_end spare Etx content = within-fields_for spare (values_of (parts_of content))
+  within-by_end spare Etb content = omega arith
+  within-by_end spare Us content = omega arith
+
+  within-verdict : (spare : ℕ) (joined body : List ℕ) (e : End) (right : Bool) → IsWithin spare (verdict directory spare joined body e right).page
+  within-verdict spare joined body e right =
+      let three : Verdict = by_end directory spare e (joined ++ body) in
+      let two : Verdict = cond (nat_lt 1000 (length joined + length body)) (refused Content) three in
+      let one : Verdict = cond (nat_lt 250 (length body)) (refused Body) two in
+      within-cond (not right) spare (record { answer = Nak; joined = joined; page = None }) one (omega arith)
+      (within-cond (nat_lt 250 (length body)) spare (refused Body) two (omega arith)
+      (within-cond (nat_lt 1000 (length joined + length body)) spare (refused Content) three (omega arith) (within-by_end spare e (joined ++ body))))
+
+  within-decide : (s : Course) (e : Entry) → cells_for_page (decide directory s e).told.page + (decide directory s e).course.spare ≤ s.spare
+  within-decide s empty_line = omega arith
+  within-decide s logon = omega arith
+  within-decide s wrong_line = omega arith
+  within-decide s (a_block body e right) = let h = within-verdict s.spare s.joined body e right in omega (arith, h)
+  within-decide s a_bye = omega arith
+
+  cells-cons_option : (o : Option Page) (pages : List Page) → sum_by cells_of (cons_option o pages) ≡ cells_for_page o + sum_by cells_of pages
+  cells-cons_option None pages = omega arith
+  cells-cons_option (Some page) pages = sum_by-cons cells_of page pages
+
+  cells-cond : (b : Bool) (told : List Told) (n : ℕ) → sum_by cells_of (pages_of told) ≤ n → sum_by cells_of (pages_of (cond b [] told)) ≤ n
+  cells-cond true told n h = omega arith
+  cells-cond false told n h = h
+
+  cells-tell : (s : Course) (es : List Entry) → sum_by cells_of (pages_of (tell directory s es)) ≤ s.spare
+  cells-tell s [] = omega arith
+  cells-tell s (e ∷ es) =
+      let d : Decided = decide directory s e in
+      let later : List Told = tell directory d.course es in
+      let rest = cells-cond (is_end d.told.answer) later d.course.spare (cells-tell d.course es) in
+      let w = within-decide s e in
+      omega (arith, cells-cons_option d.told.page (pages_of (cond (is_end d.told.answer) [] later)), rest, w)
+
+-- the pages of a session take no more cells than were spare
+pub pages_within : (settings : Parts) (spare : ℕ) (bytes : List ℕ) (session : Session) → SessionOf settings spare bytes session → sum_by cells_of session.pages ≤ spare
+pages_within settings spare bytes session h =
+    subst (λ (s : Session). sum_by cells_of s.pages ≤ spare) (sym h.session_is) (cells-tell (directory_of settings) (start spare) (items_of settings.password h.pieces))
+
+-- ---- all sessions
+
+pub airs_fit : AirsFit
+airs_fit settings spare [] = omega arith
+airs_fit settings spare (s ∷ ss) =
+    let one = air_few s.ran.session.pages s.bits spare s.is_air (pages_within settings spare s.ran.fed s.ran.session s.ran.session_is) in
+    let on = airs_fit settings spare ss in
+    let both : length (s.bits ++ airs ss) ≤ 8 * most_air spare + 8 * (length ss * most_air spare) = omega (arith, length-append s.bits (airs ss), one, on) in
+    let many : 8 * (suc (length ss) * most_air spare) ≡ 8 * most_air spare + 8 * (length ss * most_air spare) = grind arith in
+    omega (arith, both, many)
+
+pub shelf_fits : ShelfFits
+shelf_fits settings spare most wire shelf name t told steady proper room = record {
+  tells = told;
+  steady = steady;
+  proper = proper;
+  told = t;
+  fits = λ now sessions after few.
+      let a = airs_fit settings spare sessions in
+      let b : length sessions * most_air spare ≤ most * most_air spare = mul-le-mul_right (most_air spare) few in
+      omega (arith, a, b, room);
+}
