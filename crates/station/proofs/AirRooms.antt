@@ -70,7 +70,7 @@ length-preamble = refl
 length-transmission : (slots : List ℕ) → length (transmission slots) ≡ 18 + 17 * (length slots / 16)
 length-transmission slots = omega (arith, length-append preamble (batches (length slots / 16) slots), length-preamble, length-batches (length slots / 16) slots (omega arith))
 
-air_few : (pages : List Page) (bits : List Bool) (spare : ℕ) → IsAir pages bits → sum_by cells_of pages ≤ spare → length bits ≤ 8 * most_air spare
+pub air_few : (pages : List Page) (bits : List Bool) (spare : ℕ) → IsAir pages bits → sum_by cells_of pages ≤ spare → length bits ≤ 8 * most_air spare
 air_few [] bits spare h le = omega (arith, ap length h)
 air_few (page ∷ pages) bits spare h le =
     let f = few_slots (page ∷ pages) h.0 (λ e. absurd cc) h.1 in

@@ -66,4 +66,5 @@ pub mod OneSends
 pub mod AirRooms
 pub mod OneCommands
 pub mod OneRuns
+pub mod FitWorlds
 pub mod OneSettings

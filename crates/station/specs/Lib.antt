@@ -41,3 +41,4 @@ pub mod OneTrial
 pub mod OneSend
 pub mod AirRoom
 pub mod OneRun
+pub mod FitWorlds

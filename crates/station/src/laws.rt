@@ -5,6 +5,7 @@ ghost use Rattle.std.specs.Prelude.{◌≡◌, ℕ, Bool, List};
 ghost use Rattle.station.specs.AcceptedPages.{AreAcceptable};
 ghost use Rattle.station.specs.AirRoom.{AirsFit, ShelfFits};
 ghost use Rattle.station.specs.Delivered.{Delivered};
+ghost use Rattle.station.specs.FitWorlds.{FitErrWithRoom, FitWithRoom};
 ghost use Rattle.station.specs.Joined.{BothEnds};
 ghost use Rattle.station.specs.LoneBlock.{HasText, IsMarkedBlock};
 ghost use Rattle.station.specs.NearAir.{CleanAir, NearAir};
@@ -63,4 +64,11 @@ pub fn one_outcome()
 pub fn air_room()
     ensures airs { AirsFit }
     ensures shelf { ShelfFits }
+{}
+
+/// That the premises of `one_outcome` can be met: whatever a steady wire has to be heard and a steady shelf holds, with enough room the
+/// objects are fit for each command whose files are there.
+pub fn fit_with_room()
+    ensures objects { FitWithRoom }
+    ensures err { FitErrWithRoom }
 {}

@@ -1,0 +1,305 @@
+-- Steady objects are fit for a command where they have enough room.
+use Rattle.std.proofs.Common.{◌≡◌, ◌⊎◌, inl, inr, ℕ, zero, suc, ◌+◌, ◌*◌, ◌<◌, ◌≤◌, Bool, List, [], ◌∷◌, ◌++◌, length, length-append, take, codes, decimal, Option, Some, None, Result, Ok, Err, IsTrue, refl, ◌∙◌, ap, ap₂, subst, arith}
+use Rattle.std.proofs.lemmas.Bool.{cases_lt}
+use Rattle.std.proofs.lemmas.Fmt.{length-decimal-le}
+use Rattle.std.proofs.Math.Seq.{take-append_seam}
+use Rattle.air.specs.Air.{IsAir, transmission}
+use Rattle.bits.specs.Bits.{bytes_bits, words_bits}
+use Rattle.page_text.specs.Page.{Page}
+use Rattle.scheduler.specs.Plan.{slots_of}
+use Rattle.scheduler.proofs.Schedules.{slots_of-schedule}
+use Rattle.subscribers.specs.Parts.{Parts}
+use Rattle.subscribers.specs.Settings.{settings_of}
+use Rattle.subscribers.specs.declared.faults.SettingsFault.{SettingsFault}
+use Rattle.tap_block.specs.Chars.{characters}
+use Rattle.tap_entry.specs.declared.faults.PagesFault.{PagesFault}
+use Rattle.tap_entry.specs.declared.faults.PagesFault.TheVariants as Pages
+use Rattle.tap_entry.specs.declared.hearing.Mark.{Mark}
+use Rattle.tap_entry.specs.Client.{Client}
+use Rattle.tap_entry.specs.PagesFile.{IsFile, IsRefused, IsWrongLine, Told}
+use Rattle.tap_entry.proofs.OneClient.{one_client}
+use Rattle.tap_entry.proofs.OneCut.{one_marks, some_marks}
+use Rattle.tap_entry.proofs.OneFile.{one_told}
+use Rattle.tap_entry.proofs.SomeClient.{some_client}
+use Rattle.tap_terminal.specs.Desk.{directory_of}
+use Rattle.tap_terminal.specs.Replies.{replies}
+use Rattle.tap_terminal.specs.Session.{Session}
+use Rattle.tap_terminal.proofs.Fronts.{session_exists}
+use Rattle.tap_terminal.proofs.Sessions.{one_session}
+use Rattle.wires.specs.Line.{Line}
+use Rattle.wires.specs.Stacked.{noisy_bits}
+use Rattle.station.specs.declared.outcomes.Outcome.{Outcome}
+use Rattle.station.specs.declared.outcomes.Outcome.TheVariants.{Ended, Misread, Refused}
+use Rattle.station.specs.declared.statuses.Status.{Status}
+use Rattle.station.specs.declared.statuses.Status.TheVariants.{Done, Usage, Settings, FileFault, WireFault, OutFault, InputFault, NotBlock, BadSum, BadText, TooLong, LogonRefused, SomeUnsent, Memory, BadPages}
+use Rattle.station.specs.AirRoom.{most_air}
+use Rattle.station.specs.AlphaPage.{alpha_page}
+use Rattle.station.specs.Commands.{Command, One, Play, Send, Show, Station, Trial}
+use Rattle.station.specs.Conversations.{IsSaidFor}
+use Rattle.station.specs.FitWorlds.{AreSteady, FitErrWithRoom, FitWithRoom, HasFiles, roomy}
+use Rattle.station.specs.LoneBlock.{HasText}
+use Rattle.station.specs.OneOutcome.{bits_listened}
+use Rattle.station.specs.OneRun.{line_about}
+use Rattle.station.specs.OneSend.{FitSend}
+use Rattle.station.specs.OneStation.{FitStation}
+use Rattle.station.specs.OneTrial.{FitTrial}
+use Rattle.station.specs.Outcomes.{pages_line, settings_line}
+use Rattle.station.specs.PageLines.{play_lines}
+use Rattle.station.specs.ReportLine.{longest_line}
+use Rattle.station.specs.Rows.{Acts, Objects, around}
+use Rattle.station.specs.Sessions.{SessionOf}
+use Rattle.station.specs.Statuses.{line_of}
+use Rattle.station.specs.Table.{table_of}
+use Rattle.station.specs.Talk.{IsFront}
+use Rattle.station.specs.Trying.{trial_lines}
+use Rattle.station.proofs.AirRooms.{air_few, shelf_fits}
+use Rattle.station.proofs.OneAir.{one_air}
+
+-- ---- sums of the first values of a function
+
+abbrev sum_to : (ℕ → ℕ) → ℕ → ℕ
+sum_to f zero = 0
+sum_to f (suc n) = f n + sum_to f n
+
+within_sum : (f : ℕ → ℕ) (n k : ℕ) → k < n → f k ≤ sum_to f n
+within_sum f zero k lt = absurd (omega (arith, lt))
+within_sum f (suc n) k lt = elim (cases_lt k n) [
+  | inl less ↦ (let h = within_sum f n k less in omega (arith, h))
+  | inr not_less ↦ (let e : n ≡ k = omega (arith, lt, not_less) in subst (λ (j : ℕ). f j ≤ f n + sum_to f n) e (omega arith))
+]
+
+-- ---- what sessions and calls take
+
+abbrev replies_room : Parts → ℕ → List ℕ → ℕ
+replies_room settings spare rest = length (replies (session_exists settings.password (directory_of settings) spare (characters rest)).0.answers)
+
+replies_fit : (settings : Parts) (spare : ℕ) (rest : List ℕ) (session : Session) → SessionOf settings spare rest session → length (replies session.answers) ≤ replies_room settings spare rest
+replies_fit settings spare rest session h =
+    let some = session_exists settings.password (directory_of settings) spare (characters rest) in
+    let same : session ≡ some.0 = one_session settings.password (directory_of settings) spare (characters rest) session some.0 h some.1 in
+    omega (arith, ap (λ (s : Session). length (replies s.answers)) same)
+
+abbrev wire_room : Parts → ℕ → Line → ℕ
+wire_room settings spare wire = sum_to (λ k. replies_room settings spare (wire.connection k).rest) wire.count
+
+abbrev said_room : Told → List ℕ → ℕ
+said_room told front = length (some_client told.password told.pages (some_marks (take 999999 (characters front))).0).1.0
+
+said_fits : (told : Told) (front said : List ℕ) → IsSaidFor told front said → length said ≤ said_room told front
+said_fits told front said h =
+    let marks = some_marks (take 999999 (characters front)) in
+    let same : h.marks ≡ marks.0 = one_marks (take 999999 (characters front)) h.marks marks.0 h.marks_are marks.1 in
+    let some = some_client told.password told.pages marks.0 in
+    let c = one_client told.password told.pages marks.0 h.outcomes said some.0 some.1.0 (subst (λ (z : List Mark). Client told.password told.pages z h.outcomes said) same h.client) some.1.1 in
+    omega (arith, ap length c.1)
+
+abbrev call_room : Told → List ℕ → ℕ
+call_room told rest = sum_to (λ n. said_room told (take n rest)) (suc (length rest))
+
+call_fits : (told : Told) (rest front said : List ℕ) → IsFront front rest → IsSaidFor told front said → length said ≤ call_room told rest
+call_fits told rest front said f h =
+    let is : take (length front) rest ≡ front = ap (λ (z : List ℕ). take (length front) z) f.is ∙ take-append_seam front f.rest in
+    let few : length front < suc (length rest) = omega (arith, ap length f.is, length-append front f.rest) in
+    let a = within_sum (λ n. said_room told (take n rest)) (suc (length rest)) (length front) few in
+    let b = said_fits told front said h in
+    omega (arith, a, b, ap (said_room told) is)
+
+abbrev air_of : List Page → List Bool
+air_of [] = []
+air_of (page ∷ pages) = words_bits (transmission (slots_of (page ∷ pages)))
+
+is_air_of : (pages : List Page) → IsAir pages (air_of pages)
+is_air_of [] = refl
+is_air_of (page ∷ pages) = (slots_of (page ∷ pages), slots_of-schedule (page ∷ pages) (λ e. absurd cc), refl)
+
+-- ---- each command
+
+-- one page of at most 400 characters
+one_fits : (capcode : ℕ) (body text : List ℕ) (bits : List Bool) → HasText body text → IsAir (alpha_page capcode text ∷ []) bits → length bits ≤ 8 * most_air 13
+one_fits capcode body text bits h a =
+    let few = h.fits.short in
+    air_few (alpha_page capcode text ∷ []) bits 13 a (omega (arith, few))
+
+abbrev station_by : ℕ → Line → Result Parts SettingsFault → ℕ
+station_by count wire (Ok parts) = wire_room parts parts.cells wire + count * most_air parts.cells
+station_by count wire (Err fault) = 0
+
+abbrev station_room : ℕ → Objects → List ℕ → ℕ
+station_room count old settings = station_by count old.wire (settings_of (old.shelf.file settings)) + count * longest_line
+
+fit_station : (address settings air : List ℕ) (count : ℕ) (old : Objects) → AreSteady old → HasFiles (Some (Station address settings air count)) old → (room : ℕ) → station_room count old settings ≤ room
+    → FitStation settings air count (around (roomy room old))
+fit_station address settings air count old s h room le = record {
+  tells = s.shelf_tells;
+  steady = s.shelf_steady;
+  there = h.0;
+  wire = λ parts e. record {
+    tells = s.wire_tells;
+    steady = s.wire_steady;
+    fits = λ k from lt session is.
+        let a = replies_fit parts parts.cells (old.wire.connection k).rest session is in
+        let b = within_sum (λ j. replies_room parts parts.cells (old.wire.connection j).rest) old.wire.count k lt in
+        omega (arith, a, b, le, ap (station_by count old.wire) e);
+  };
+  shelf = λ parts e. shelf_fits parts parts.cells count (roomy room old).wire (roomy room old).shelf air s.wire_tells s.shelf_tells s.shelf_steady h.1 (omega (arith, le, ap (station_by count old.wire) e));
+  out = record { tells = s.out_tells; steady = s.out_steady; fits = omega (arith, le) };
+}
+
+abbrev trial_by : List ℕ → List ℕ → List Bool → Result Parts SettingsFault → ℕ
+trial_by capcodes input noise (Ok parts) =
+    let some = session_exists parts.password (directory_of parts) parts.cells (characters input) in
+    length (trial_lines (play_lines capcodes) some.0 (noisy_bits (air_of some.0.pages) noise))
+trial_by capcodes input noise (Err fault) = 0
+
+abbrev trial_room : List ℕ → Objects → List ℕ → List ℕ → ℕ
+trial_room capcodes old settings noise = trial_by capcodes old.streams.input.left (bytes_bits (old.shelf.file noise)) (settings_of (old.shelf.file settings))
+
+trial_fits : (capcodes input : List ℕ) (noise : List Bool) (parts : Parts) (session : Session) (air : List Bool) → SessionOf parts parts.cells input session → IsAir session.pages air
+    → length (trial_lines (play_lines capcodes) session (noisy_bits air noise)) ≡ trial_by capcodes input noise (Ok parts)
+trial_fits capcodes input noise parts session air h a =
+    let some = session_exists parts.password (directory_of parts) parts.cells (characters input) in
+    let same : session ≡ some.0 = one_session parts.password (directory_of parts) parts.cells (characters input) session some.0 h some.1 in
+    let bits : air ≡ air_of some.0.pages = one_air some.0.pages (air_of some.0.pages) air (is_air_of some.0.pages) (subst (λ (z : Session). IsAir z.pages air) same a) in
+    ap₂ (λ (z : Session) (b : List Bool). length (trial_lines (play_lines capcodes) z (noisy_bits b noise))) same bits
+
+fit_trial : (settings noise capcodes : List ℕ) (old : Objects) → AreSteady old → HasFiles (Some (Trial settings noise capcodes)) old → (room : ℕ) → trial_room capcodes old settings noise ≤ room
+    → FitTrial settings noise capcodes (roomy room old).shelf (roomy room old).streams
+fit_trial settings noise capcodes old s h room le = record {
+  tells = s.shelf_tells;
+  steady = s.shelf_steady;
+  there = h.0;
+  noise_there = h.1;
+  input_tells = s.input_tells;
+  input_steady = s.input_steady;
+  out_tells = s.out_tells;
+  out_steady = s.out_steady;
+  room = λ parts e session air is a.
+      let f = trial_fits capcodes old.streams.input.left (bytes_bits (old.shelf.file noise)) parts session air is a in
+      omega (arith, f, le, ap (trial_by capcodes old.streams.input.left (bytes_bits (old.shelf.file noise))) e);
+}
+
+abbrev SaysOrNot : List ℕ → Type 0
+SaysOrNot bytes = ((told : Told) × IsFile bytes told) ⊎ ((told : Told) → IsFile bytes told → ⊥)
+
+abbrev send_by : (bytes rest : List ℕ) → SaysOrNot bytes → ℕ
+send_by bytes rest (inl h) = call_room h.0 rest + 20 * length h.0.pages
+send_by bytes rest (inr h) = 0
+
+send_fits : (bytes rest : List ℕ) (c : SaysOrNot bytes) (told : Told) → IsFile bytes told → call_room told rest + 20 * length told.pages ≤ send_by bytes rest c
+send_fits bytes rest (inl h) told is = let same : h.0 ≡ told = one_told bytes h.0 told h.1 is in subst (λ (z : Told). call_room z rest + 20 * length z.pages ≤ call_room h.0 rest + 20 * length h.0.pages) same (omega arith)
+send_fits bytes rest (inr h) told is = absurd (h told is)
+
+fit_send : (address pages : List ℕ) (old : Objects) → AreSteady old → (h : HasFiles (Some (Send address pages)) old) → (room : ℕ) → send_by (old.shelf.file pages) (old.wire.connection old.wire.opened).rest h.2 ≤ room
+    → FitSend pages (around (roomy room old))
+fit_send address pages old s h room le = record {
+  tells = s.shelf_tells;
+  steady = s.shelf_steady;
+  there = h.0;
+  wire_tells = s.wire_tells;
+  wire_steady = s.wire_steady;
+  left = h.1;
+  wire_room = λ told is front said f within k.
+      let a = call_fits told (old.wire.connection old.wire.opened).rest front said f k in
+      let b = send_fits (old.shelf.file pages) (old.wire.connection old.wire.opened).rest h.2 told is in
+      omega (arith, a, b, le);
+  out_tells = s.out_tells;
+  out_steady = s.out_steady;
+  out_room = λ told is.
+      let b = send_fits (old.shelf.file pages) (old.wire.connection old.wire.opened).rest h.2 told is in
+      omega (arith, b, le);
+}
+
+pub fit_with_room : FitWithRoom
+fit_with_room None old s h = (0, λ room le. tt)
+fit_with_room (Some (One capcode)) old s h = (
+  most_air 13,
+  λ room le. record {
+    input_tells = s.input_tells;
+    input_steady = s.input_steady;
+    tells = s.out_tells;
+    steady = s.out_steady;
+    room = λ body text bits is has air. let a = one_fits capcode body text bits has air in omega (arith, a, le);
+  },
+)
+fit_with_room (Some (Play air capcodes)) old s h = (length (play_lines capcodes (bits_listened air old.shelf)), λ room le. (record { tells = s.shelf_tells; steady = s.shelf_steady; there = h }, record { tells = s.out_tells; steady = s.out_steady; room = le }))
+fit_with_room (Some (Show air)) old s h = (length (table_of (bits_listened air old.shelf)), λ room le. (record { tells = s.shelf_tells; steady = s.shelf_steady; there = h }, record { tells = s.out_tells; steady = s.out_steady; room = le }))
+fit_with_room (Some (Station address settings air count)) old s h = (station_room count old settings, λ room le. fit_station address settings air count old s h room le)
+fit_with_room (Some (Trial settings noise capcodes)) old s h = (trial_room capcodes old settings noise, λ room le. fit_trial settings noise capcodes old s h room le)
+fit_with_room (Some (Send address pages)) old s h = (send_by (old.shelf.file pages) (old.wire.connection old.wire.opened).rest h.2, λ room le. fit_send address pages old s h room le)
+
+-- ---- the line about an outcome
+
+status_few : (status : Status) → length (line_of status) ≤ 32
+status_few Done = omega arith
+status_few Usage = omega arith
+status_few Settings = omega arith
+status_few FileFault = omega arith
+status_few WireFault = omega arith
+status_few OutFault = omega arith
+status_few InputFault = omega arith
+status_few NotBlock = omega arith
+status_few BadSum = omega arith
+status_few BadText = omega arith
+status_few TooLong = omega arith
+status_few LogonRefused = omega arith
+status_few SomeUnsent = omega arith
+status_few Memory = omega arith
+status_few BadPages = omega arith
+
+wrong_line_few : (bytes : List ℕ) (n : ℕ) → IsWrongLine bytes n → n < 10000
+wrong_line_few bytes n (inl h) = let e = h.0 in omega (arith, e)
+wrong_line_few bytes n (inr h) = let e = h.number in let few = h.before.few in omega (arith, e, few)
+
+misread_few : (bytes : List ℕ) (fault : PagesFault) → IsRefused bytes fault → length (pages_line fault) ≤ 32
+misread_few bytes Pages.Long h = omega arith
+misread_few bytes (Pages.Line n) h =
+    let lt = wrong_line_few bytes n h.1 in
+    let d : length (decimal n) ≤ 4 = length-decimal-le 4 n (omega arith) (omega (arith, lt)) (omega (arith, lt)) in
+    let a = length-append (codes "line " ++ decimal n) (codes "\n") in
+    let b = length-append (codes "line ") (decimal n) in
+    omega (arith, d, a, b)
+misread_few bytes Pages.Memory h = omega arith
+
+abbrev refusal_room : Result Parts SettingsFault → ℕ
+refusal_room (Ok parts) = 0
+refusal_room (Err fault) = length (settings_line fault)
+
+refusal_fits : (x : Result Parts SettingsFault) (fault : SettingsFault) → x ≡ Err fault → length (settings_line fault) ≤ refusal_room x
+refusal_fits x fault e = omega (arith, ap refusal_room e)
+
+abbrev err_room : Option Command → Objects → ℕ
+err_room (Some (Station address settings air count)) old = 32 + refusal_room (settings_of (old.shelf.file settings))
+err_room (Some (Trial settings noise capcodes)) old = 32 + refusal_room (settings_of (old.shelf.file settings))
+err_room other old = 32
+
+err_fits : (command : Option Command) (old new : Objects) (outcome : Outcome) → IsTrue old.shelf.tells → Acts command old new outcome → length (line_about outcome) ≤ err_room command old
+err_fits None old new outcome t h = omega (arith, ap (λ (z : Outcome). length (line_about z)) h.0)
+err_fits (Some (One capcode)) old new (Ended status) t h = status_few status
+err_fits (Some (One capcode)) old new (Refused fault) t h = elim h [ ]
+err_fits (Some (One capcode)) old new (Misread fault) t h = elim h [ ]
+err_fits (Some (Play air capcodes)) old new (Ended status) t h = status_few status
+err_fits (Some (Play air capcodes)) old new (Refused fault) t h = elim h [ ]
+err_fits (Some (Play air capcodes)) old new (Misread fault) t h = elim h [ ]
+err_fits (Some (Show air)) old new (Ended status) t h = status_few status
+err_fits (Some (Show air)) old new (Refused fault) t h = elim h [ ]
+err_fits (Some (Show air)) old new (Misread fault) t h = elim h [ ]
+err_fits (Some (Station address settings air count)) old new (Ended status) t h = let a = status_few status in omega (arith, a)
+err_fits (Some (Station address settings air count)) old new (Refused fault) t h = let a = refusal_fits (settings_of (old.shelf.file settings)) fault (h.row.0.refused t) in omega (arith, a)
+err_fits (Some (Station address settings air count)) old new (Misread fault) t h = elim h.row [ ]
+err_fits (Some (Trial settings noise capcodes)) old new (Ended status) t h = let a = status_few status in omega (arith, a)
+err_fits (Some (Trial settings noise capcodes)) old new (Refused fault) t h = let a = refusal_fits (settings_of (old.shelf.file settings)) fault (h.row.0.refused t) in omega (arith, a)
+err_fits (Some (Trial settings noise capcodes)) old new (Misread fault) t h = elim h.row [ ]
+err_fits (Some (Send address pages)) old new (Ended status) t h = status_few status
+err_fits (Some (Send address pages)) old new (Refused fault) t h = elim h.row [ ]
+err_fits (Some (Send address pages)) old new (Misread Pages.Memory) t h = elim h.row [ ]
+err_fits (Some (Send address pages)) old new (Misread fault) t h = misread_few (old.shelf.file pages) fault (h.row.0.refused t)
+
+pub fit_err_with_room : FitErrWithRoom
+fit_err_with_room command old t = (
+  err_room command old,
+  λ err tells steady le. record {
+    tells = tells;
+    steady = steady;
+    room = λ new outcome acts. let a = err_fits command old new outcome t acts in omega (arith, a, le);
+  },
+)

@@ -1,0 +1,59 @@
+-- Steady objects are fit for a command where they have enough room.
+use Rattle.std.specs.Prelude.{◌⊎◌, ℕ, ◌<◌, ◌≤◌, length, Option, Some, None, IsTrue}
+use Rattle.tap_entry.specs.PagesFile.{IsFile, Told}
+use Rattle.wires.specs.Files.{Files, longest_name}
+use Rattle.wires.specs.Held.{Connection}
+use Rattle.wires.specs.Line.{Line}
+use Rattle.wires.specs.Written.{Written}
+use Rattle.station.specs.Commands.{Command, One, Play, Send, Show, Station, Trial}
+use Rattle.station.specs.OneRun.{FitErr, FitRun}
+use Rattle.station.specs.Rows.{Objects, Streams}
+
+-- The objects tell what they hold, and are steady.
+pub record AreSteady (old : Objects) : Type 0 where
+  pub wire_tells : IsTrue old.wire.tells
+  pub wire_steady : IsTrue old.wire.steady
+  pub shelf_tells : IsTrue old.shelf.tells
+  pub shelf_steady : IsTrue old.shelf.steady
+  pub input_tells : IsTrue old.streams.input.tells
+  pub input_steady : IsTrue old.streams.input.steady
+  pub out_tells : IsTrue old.streams.out.tells
+  pub out_steady : IsTrue old.streams.out.steady
+
+-- the same objects with so much room on each connection, in a fresh file, and in the output
+abbrev pub roomy_connection : ℕ → Connection → Connection
+roomy_connection room c = record { heard = c.heard; rest = c.rest; said = c.said; turns = c.turns; room = room }
+
+abbrev pub roomy_wire : ℕ → Line → Line
+roomy_wire room l = record l { connection = λ k. roomy_connection room (l.connection k) }
+
+abbrev pub roomy_shelf : ℕ → Files → Files
+roomy_shelf room s = record s { fresh_room = room }
+
+abbrev pub roomy_sink : ℕ → Written ℕ → Written ℕ
+roomy_sink room w = record w { room = room }
+
+abbrev pub roomy_streams : ℕ → Streams → Streams
+roomy_streams room s = record { input = s.input; out = roomy_sink room s.out }
+
+abbrev pub roomy : ℕ → Objects → Objects
+roomy room old = record { wire = roomy_wire room old.wire; shelf = roomy_shelf room old.shelf; streams = roomy_streams room old.streams }
+
+-- The files that a command reads are there, and for `send` a connection is left, and the pages file says pages or not.
+abbrev pub HasFiles : Option Command → Objects → Type 0
+HasFiles None old = Unit {0}
+HasFiles (Some (One capcode)) old = Unit {0}
+HasFiles (Some (Play air capcodes)) old = IsTrue (old.shelf.there air)
+HasFiles (Some (Show air)) old = IsTrue (old.shelf.there air)
+HasFiles (Some (Station address settings air count)) old = IsTrue (old.shelf.there settings) × (IsTrue (old.shelf.there air) ⊎ (IsTrue old.shelf.further × (length air ≤ longest_name)))
+HasFiles (Some (Trial settings noise capcodes)) old = IsTrue (old.shelf.there settings) × IsTrue (old.shelf.there noise)
+HasFiles (Some (Send address pages)) old =
+    IsTrue (old.shelf.there pages) × (old.wire.opened < old.wire.count) × (((told : Told) × IsFile (old.shelf.file pages) told) ⊎ ((told : Told) → IsFile (old.shelf.file pages) told → ⊥))
+
+-- For each command, steady objects with its files are fit for it wherever they have so much room or more.
+abbrev pub FitWithRoom : Type 0
+FitWithRoom = (command : Option Command) (old : Objects) → AreSteady old → HasFiles command old → (enough : ℕ) × ((room : ℕ) → enough ≤ room → FitRun command (roomy room old))
+
+-- A steady output of errors is fit wherever it has so much room or more.
+abbrev pub FitErrWithRoom : Type 0
+FitErrWithRoom = (command : Option Command) (old : Objects) → IsTrue old.shelf.tells → (enough : ℕ) × ((err : Written ℕ) → IsTrue err.tells → IsTrue err.steady → enough ≤ err.room → FitErr command (record { objects = old; err = err }))
