@@ -36,7 +36,7 @@ use Rattle.station.specs.AirRoom.{most_air}
 use Rattle.station.specs.AlphaPage.{alpha_page}
 use Rattle.station.specs.Commands.{Command, One, Play, Send, Show, Station, Trial}
 use Rattle.station.specs.Conversations.{IsSaidFor}
-use Rattle.station.specs.FitWorlds.{AreSteady, FitErrWithRoom, FitWithRoom, HasFiles, roomy}
+use Rattle.station.specs.FitWorlds.{AreSteady, FitErrWithRoom, FitInMemory, FitWithRoom, HasFiles, world, roomy}
 use Rattle.station.specs.LoneBlock.{HasText}
 use Rattle.station.specs.OneOutcome.{bits_listened}
 use Rattle.station.specs.OneRun.{line_about}
@@ -303,3 +303,42 @@ fit_err_with_room command old t = (
     room = λ new outcome acts. let a = err_fits command old new outcome t acts in omega (arith, a, le);
   },
 )
+
+-- ---- objects in memory
+
+has_files : (command : Option Command) (heard input : List ℕ) (file : List ℕ → List ℕ) → ((name : List ℕ) → SaysOrNot (file name)) → HasFiles command (world heard file input)
+has_files None heard input file says = tt
+has_files (Some (One capcode)) heard input file says = tt
+has_files (Some (Play air capcodes)) heard input file says = refl
+has_files (Some (Show air)) heard input file says = refl
+has_files (Some (Station address settings air count)) heard input file says = (refl, inl refl)
+has_files (Some (Trial settings noise capcodes)) heard input file says = (refl, refl)
+has_files (Some (Send address pages)) heard input file says = (refl, omega arith, says pages)
+
+steady_world : (heard input : List ℕ) (file : List ℕ → List ℕ) → AreSteady (world heard file input)
+steady_world heard input file = record { wire_tells = refl; wire_steady = refl; shelf_tells = refl; shelf_steady = refl; input_tells = refl; input_steady = refl; out_tells = refl; out_steady = refl }
+
+-- the line about an outcome takes no more where there is more room
+same_err : (command : Option Command) (room : ℕ) (old : Objects) → err_room command (roomy room old) ≡ err_room command old
+same_err None room old = refl
+same_err (Some (One capcode)) room old = refl
+same_err (Some (Play air capcodes)) room old = refl
+same_err (Some (Show air)) room old = refl
+same_err (Some (Station address settings air count)) room old = refl
+same_err (Some (Trial settings noise capcodes)) room old = refl
+same_err (Some (Send address pages)) room old = refl
+
+pub fit_in_memory : FitInMemory
+fit_in_memory command heard input file says =
+    let old = world heard file input in
+    let fit = fit_with_room command old (steady_world heard input file) (has_files command heard input file says) in (
+      fit.0 + err_room command old,
+      λ room le. (
+        fit.1 room (omega (arith, le)),
+        record {
+          tells = refl;
+          steady = refl;
+          room = λ new outcome acts. let a = err_fits command (roomy room old) new outcome refl acts in omega (arith, a, le, same_err command room old);
+        },
+      ),
+    )

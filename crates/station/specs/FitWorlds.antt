@@ -1,8 +1,9 @@
 -- Steady objects are fit for a command where they have enough room.
-use Rattle.std.specs.Prelude.{◌⊎◌, ℕ, ◌<◌, ◌≤◌, length, Option, Some, None, IsTrue}
+use Rattle.std.specs.Prelude.{◌⊎◌, ℕ, ◌<◌, ◌≤◌, true, false, List, [], length, Option, Some, None, IsTrue}
 use Rattle.tap_entry.specs.PagesFile.{IsFile, Told}
 use Rattle.wires.specs.Files.{Files, longest_name}
 use Rattle.wires.specs.Held.{Connection}
+use Rattle.wires.specs.Left.{Left}
 use Rattle.wires.specs.Line.{Line}
 use Rattle.wires.specs.Written.{Written}
 use Rattle.station.specs.Commands.{Command, One, Play, Send, Show, Station, Trial}
@@ -57,3 +58,44 @@ FitWithRoom = (command : Option Command) (old : Objects) → AreSteady old → H
 -- A steady output of errors is fit wherever it has so much room or more.
 abbrev pub FitErrWithRoom : Type 0
 FitErrWithRoom = (command : Option Command) (old : Objects) → IsTrue old.shelf.tells → (enough : ℕ) × ((err : Written ℕ) → IsTrue err.tells → IsTrue err.steady → enough ≤ err.room → FitErr command (record { objects = old; err = err }))
+
+-- ---- objects in memory
+
+-- one connection, on which these bytes are to be heard. No other is there
+abbrev pub one_connection : List ℕ → Line
+one_connection heard = record {
+  tells = true;
+  count = 1;
+  connection = λ k. record { heard = 0; rest = heard; said = []; turns = []; room = 0 };
+  opened = 0;
+  is_open = false;
+  asked = [];
+  steady = true;
+  gate = 0;
+  hear = 0;
+  say = 0;
+  hang = 0;
+  lent = [];
+}
+
+-- every name is there, and has these bytes
+abbrev pub all_there : (List ℕ → List ℕ) → Files
+all_there file = record { tells = true; there = λ name. true; file = file; fresh = λ name. false; room = λ name. 0; fresh_room = 0; further = true; steady = true; faults = 0; lent = [] }
+
+-- bytes to be read
+abbrev pub in_memory : List ℕ → Left ℕ
+in_memory bytes = record { tells = true; left = bytes; there = true; steady = true; faults = 0; lent = [] }
+
+-- an output that holds nothing, with so much room
+abbrev pub a_sink : ℕ → Written ℕ
+a_sink room = record { tells = true; held = []; room = room; steady = true; faults = 0; lent = [] }
+
+-- a wire, a shelf, an input and an output in memory
+abbrev pub world : List ℕ → (List ℕ → List ℕ) → List ℕ → Objects
+world heard file input = record { wire = one_connection heard; shelf = all_there file; streams = record { input = in_memory input; out = a_sink 0 } }
+
+-- For each command, and whatever is to be heard, stands in the files and is to be read, objects in memory are fit with enough room. Each
+-- file says pages, or says none.
+abbrev pub FitInMemory : Type 0
+FitInMemory = (command : Option Command) (heard input : List ℕ) (file : List ℕ → List ℕ) → ((name : List ℕ) → ((told : Told) × IsFile (file name) told) ⊎ ((told : Told) → IsFile (file name) told → ⊥))
+    → (enough : ℕ) × ((room : ℕ) → enough ≤ room → FitRun command (roomy room (world heard file input)) × FitErr command (record { objects = roomy room (world heard file input); err = a_sink room }))

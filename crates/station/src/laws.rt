@@ -5,7 +5,7 @@ ghost use Rattle.std.specs.Prelude.{◌≡◌, ℕ, Bool, List};
 ghost use Rattle.station.specs.AcceptedPages.{AreAcceptable};
 ghost use Rattle.station.specs.AirRoom.{AirsFit, ShelfFits};
 ghost use Rattle.station.specs.Delivered.{Delivered};
-ghost use Rattle.station.specs.FitWorlds.{FitErrWithRoom, FitWithRoom};
+ghost use Rattle.station.specs.FitWorlds.{FitErrWithRoom, FitInMemory, FitWithRoom};
 ghost use Rattle.station.specs.Joined.{BothEnds};
 ghost use Rattle.station.specs.LoneBlock.{HasText, IsMarkedBlock};
 ghost use Rattle.station.specs.NearAir.{CleanAir, NearAir};
@@ -71,4 +71,5 @@ pub fn air_room()
 pub fn fit_with_room()
     ensures objects { FitWithRoom }
     ensures err { FitErrWithRoom }
+    ensures memory { FitInMemory }
 {}
