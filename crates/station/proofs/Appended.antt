@@ -33,6 +33,8 @@ sends_to n m a b name name2 old new before after r h none same =
       fresh = k.fresh;
       room = λ t. subst (λ (z : List ℕ). 8 * new.room z + length (bytes_bits (new.file z)) ≡ 8 * old.room name + length (bytes_bits (old.file name))) f (h.puts.room t);
       others = k.others;
+      fresh_room = k.fresh_room;
+      further = k.further;
       lent = k.lent;
       steady = λ t s fresh fits. let q = h.puts.steady t (and_one old.steady (old.fresh name) s fresh) fits in (q.0, (and_both new.steady (new.fresh name2) q.1).0);
       cause = h.puts.faults;

@@ -1,5 +1,5 @@
 -- A call from dialling to hanging up, and the statuses of sending pages.
-use Rattle.std.proofs.Common.{◌≡◌, ◌≢◌, ◌⊎◌, inl, inr, ℕ, ◌-◌, ◌*◌, ◌≤◌, ◌<◌, Bool, true, false, List, [], ◌∷◌, length, suc, Option, Result, Ok, Err, IsTrue, refl, sym, ◌∙◌, ap, subst, arith}
+use Rattle.std.proofs.Common.{◌≡◌, ◌≢◌, ◌⊎◌, inl, inr, ℕ, ◌-◌, ◌*◌, ◌≤◌, ◌<◌, Bool, true, false, List, [], ◌∷◌, length, length-append, suc, Option, Result, Ok, Err, IsTrue, refl, sym, ◌∙◌, ap, subst, arith}
 use Rattle.std.proofs.lemmas.List.{length-map}
 use Rattle.tap_entry.specs.declared.hearing.Mark.{Mark}
 use Rattle.tap_entry.specs.declared.outcomes.Outcome.{Outcome}
@@ -268,7 +268,7 @@ pub sent_so : {T E : Type 0} (told : Told) (address : List ℕ) (a d : Line) (ou
     → status ≡ status_of ending (all_sent outcomes) → HasSent told address a d out0 out1 status
 sent_so told address a d out0 out1 outcomes ending x status h p e = record {
   outcomes = outcomes;
-  sends = subst (SendsSo told address a d out0 out1 outcomes) (sym e) (sends_by told address a d out0 out1 outcomes ending (all_sent outcomes) refl h (record { tells = p.tells; held = p.held; faults = p.faults.kept; lent = p.lent }));
+  sends = subst (SendsSo told address a d out0 out1 outcomes) (sym e) (sends_by told address a d out0 out1 outcomes ending (all_sent outcomes) refl h (record { tells = p.tells; held = p.held; room = λ t. omega (arith, p.room t, ap length (p.held t), length-append out0.held (outcome_lines outcomes)); steady = λ t s f. (p.steady t s f).1; faults = p.faults.kept; lent = p.lent }));
   wire_well = λ t s lt r. (none_rose told address a d outcomes ending h t s lt r, steady_after told address a d outcomes ending h t s lt r, λ z. not_lost told address a d outcomes ending (all_sent outcomes) h t s lt r (sym e ∙ z));
   out_well = λ t s f. (p.faults.kept, λ z. not_out ending (all_sent outcomes) (sym e ∙ z));
 }
@@ -278,7 +278,7 @@ pub unput_so : {T E : Type 0} (told : Told) (address : List ℕ) (a d : Line) (o
     → HasSent told address a d out0 out1 OutFault
 unput_so {T} {E} told address a d out0 out1 outcomes ending x few h p = record {
   outcomes = outcomes;
-  sends = ((ending, h), record { tells = p.tells; held = p.held; faults = p.faults.failed; lent = p.lent; unsteady = λ t s f. no_ok T E x (p.steady t s f).0 });
+  sends = ((ending, h), record { tells = p.tells; held = p.held; room = p.room; faults = p.faults.failed; lent = p.lent; unsteady = λ t s f. no_ok T E x (p.steady t s f).0 });
   wire_well = λ t s lt r. (none_rose told address a d outcomes ending h t s lt r, steady_after told address a d outcomes ending h t s lt r, λ z. cc);
   out_well = λ t s f. no_ok T E x (p.steady t s (lines_fit told address a d outcomes ending out0.room h few f)).0;
 }

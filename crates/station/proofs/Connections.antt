@@ -1,5 +1,5 @@
 -- One connection more was served, or none.
-use Rattle.std.proofs.Common.{◌≡◌, ◌≢◌, ℕ, ◌+◌, ◌-◌, ◌≤◌, ◌<◌, inl, inr, suc, add-zero, Bool, true, List, [], ◌∷◌, ◌++◌, append-nil, append_assoc, length, length-append, Result, Ok, IsTrue, refl, sym, ◌∙◌, ap, subst, arith}
+use Rattle.std.proofs.Common.{◌≡◌, ◌≢◌, ℕ, ◌+◌, ◌-◌, ◌≤◌, ◌<◌, inl, inr, suc, add-zero, Bool, true, List, [], ◌∷◌, ◌++◌, append-nil, append_assoc, length, length-append, Result, Ok, IsTrue, IsFalse, refl, sym, ◌∙◌, ap, subst, arith}
 use Rattle.subscribers.specs.Parts.{Parts}
 use Rattle.wires.proofs.Opened.{Opens-blank}
 use Rattle.wires.proofs.Written.{still}
@@ -73,8 +73,8 @@ chain-append first was [] s h w = (waited_then first was s.before h w, not_waite
 chain-append first was (x ∷ ss) s h w = (h.0, chain-append x.after was ss s h.1 w)
 
 -- nothing was served yet
-pub wire_begins : {settings : Parts} {spare : ℕ} (first now : Line) → Waited first now → now.opened ≡ first.opened → WireAfter {settings = settings} {spare = spare} first now []
-wire_begins first now w o = record {
+pub wire_begins : {settings : Parts} {spare : ℕ} (first now : Line) → Waited first now → now.opened ≡ first.opened → now.is_open ≡ first.is_open → WireAfter {settings = settings} {spare = spare} first now []
+wire_begins first now w o same = record {
   tells = w.keeps.tells;
   count = w.keeps.count;
   lent = w.keeps.lent;
@@ -82,19 +82,21 @@ wire_begins first now w o = record {
   opened = λ _. omega (arith, o);
   others = λ _ j _. w.connections j;
   served = λ _. tt;
+  shut = λ _ d. elim d [ inl some ↦ absurd (omega (arith, some)) | inr f ↦ subst IsFalse (sym same) f ];
 }
 
 -- nothing of a connection changed
-pub wire_same : {settings : Parts} {spare : ℕ} (first was now : Line) (ss : List (Served settings spare)) → WireAfter first was ss → Waited was now → (IsTrue was.tells → now.opened ≡ was.opened) → WireAfter first now ss
+pub wire_same : {settings : Parts} {spare : ℕ} (first was now : Line) (ss : List (Served settings spare)) → WireAfter first was ss → Waited was now → (IsTrue was.tells → (now.opened ≡ was.opened) × IsFalse now.is_open) → WireAfter first now ss
 wire_same {settings} {spare} first was now ss h w o = record {
   tells = w.keeps.tells ∙ h.tells;
   count = w.keeps.count ∙ h.count;
   lent = w.keeps.lent ∙ h.lent;
   chain = chain-wait first was now ss h.chain w;
-  opened = λ q. o (still h.tells q) ∙ h.opened q;
+  opened = λ q. (o (still h.tells q)).0 ∙ h.opened q;
   others = λ q j d. w.connections j ∙ h.others q j d;
   served = λ q. from-map (IsAt first was) (IsAt first now) first.opened ss
       (λ j s _ _ a. record { within = a.within; number = a.number; was_open = a.was_open; blank = a.blank; to_hear = a.to_hear; stays = w.connections j ∙ a.stays }) (h.served q);
+  shut = λ q _. (o (still h.tells q)).1;
 }
 
 -- the connection that was opened is what it was at first
@@ -128,6 +130,7 @@ wire_more first was ss s h o =
             to_hear = opened_connection first was s.before ss h o t;
             stays = refl;
           });
+      shut = λ t _. s.closes.shut (still o.keeps.tells (still h.tells t));
     }
 
 -- over a fit wire it was served well

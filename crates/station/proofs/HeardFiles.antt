@@ -1,6 +1,7 @@
 -- What was heard of a file, from what was heard of the bits over it.
 use Rattle.std.proofs.Common.{◌≡◌, ℕ, ◌++◌, Bool, List, [], ◌∷◌, drop, refl, ◌∙◌, ap, subst}
 use Rattle.std.specs.Borrow.{GName}
+use Rattle.wires.proofs.Written.{and_both}
 use Rattle.wires.specs.Files.{Files, all_files}
 use Rattle.wires.specs.Held.{Held, Lent, OfShelf, OtherFiles, Text}
 use Rattle.wires.specs.Left.{Left, Took}
@@ -88,6 +89,7 @@ hears_file printed m n name same then ready later from at old now new o0 o statu
       listens = subst (λ (b : Left Bool). Listens printed b (holding old.lent (shelf_bits m then later at new)) o0 o status)
           (fresh_bits n name same ready from old now r f s e) (listens_holding printed old.lent _ _ o0 o status h);
       faults = refl;
+      steady = λ t. (and_both new.steady (new.there then) t).0;
       tells = k.0 ∙ ap (λ (x : Files). x.tells) e;
       files = ap (files_of old) k.1 ∙ ap all_files e;
       lent = ap (λ (held : List Held). drop 3 held) k.1 ∙ ap (λ (x : Files). x.lent) e;

@@ -1,5 +1,5 @@
 -- Serving goes on by one session, or ends.
-use Rattle.std.proofs.Common.{◌≡◌, ℕ, ◌+◌, ◌*◌, ◌≤◌, inl, inr, Bool, true, false, List, [], ◌∷◌, ◌++◌, append-nil, append_assoc, length, length-append, take, drop, Result, Ok, Err, IsTrue, refl, sym, ◌∙◌, ap, subst, arith}
+use Rattle.std.proofs.Common.{◌≡◌, ℕ, ◌+◌, ◌*◌, ◌≤◌, inl, inr, Bool, true, false, List, [], ◌∷◌, ◌++◌, append-nil, append_assoc, length, length-append, take, drop, Result, Ok, Err, IsTrue, IsFalse, refl, sym, ◌∙◌, ap, subst, arith}
 use Rattle.std.proofs.lemmas.List.{take-append-drop}
 use Rattle.air.specs.Air.{IsAir}
 use Rattle.bits.specs.Bits.{bytes_bits}
@@ -17,7 +17,7 @@ use Rattle.station.specs.declared.session.SessionEnd.{SessionEnd}
 use Rattle.station.specs.Hall.{Hall}
 use Rattle.station.specs.ReportLine.{longest_line, report_line}
 use Rattle.station.specs.Served.{FileAfter, FitOut, FitShelf, Served, airs, line_for, lines}
-use Rattle.station.specs.Serving.{Around, AtAppendFault, AtDone, AtOutFault, AtWireFault, SendsTo, SoFar}
+use Rattle.station.specs.Serving.{Around, AtAppendFault, AtDone, AtFreshFault, AtOutFault, AtWireFault, SendsTo, SoFar}
 use Rattle.station.specs.Sessions.{Closes, Ran, StandsFor}
 use Rattle.station.proofs.Connections.{airs-append, lines-append, waited_listen, waited_next, well_more, wire_begins, wire_more, wire_same}
 
@@ -74,8 +74,9 @@ pub at_done : {E : Type 0} (settings : Parts) (spare most : ℕ) (first : Around
 at_done settings spare most first w mid f o address name pool ss so few h = record {
   sessions = ss;
   few = few;
-  wire = wire_same first.wire w mid ss so.wire (waited_next w mid (Ok false) h) (λ t. (h.not_opened t refl).0);
+  wire = wire_same first.wire w mid ss so.wire (waited_next w mid (Ok false) h) (λ t. h.not_opened t refl);
   asked = λ t. h.asked ∙ so.asked t;
+  shut = λ t _. (h.not_opened (still so.wire.tells t) refl).1;
   well = λ fit. let b = so.well fit in record {
     hear = h.others.hear ∙ b.hear;
     say = h.others.say ∙ b.say;
@@ -84,7 +85,9 @@ at_done settings spare most first w mid f o address name pool ss so few h = reco
     none_lost = b.none_lost;
   };
   file = so.file;
+  file_well = so.file_well;
   out = so.out;
+  out_well = so.out_well;
   gate = h.cause.kept ∙ so.gate;
   shelf_faults = so.shelf_faults;
   out_faults = so.out_faults;
@@ -97,11 +100,13 @@ pub at_wire_fault : {E : Type 0} (settings : Parts) (spare most : ℕ) (first : 
 at_wire_fault {E} settings spare most first w mid f o address name pool e ss so few h = record {
   sessions = ss;
   few = few;
-  wire = wire_same first.wire w mid ss so.wire (waited_next w mid (Err e) h) (λ t. (h.failed t).0);
+  wire = wire_same first.wire w mid ss so.wire (waited_next w mid (Err e) h) h.failed;
   asked = λ t. h.asked ∙ so.asked t;
   unfit = λ fit. no_ok Bool E e (h.steady (still so.wire.tells fit.tells) (so.well fit).steady).0;
   file = so.file;
+  file_well = so.file_well;
   out = so.out;
+  out_well = so.out_well;
   gate = subst (λ (n : ℕ). Rose n mid.gate) so.gate h.cause.failed;
   shelf_faults = so.shelf_faults;
   out_faults = so.out_faults;
@@ -142,10 +147,14 @@ at_append_fault {T} {E} settings spare most first w mid after f f2 o address nam
         fresh = λ t. still sends.fresh (so.file.fresh t);
         room = λ t. omega (arith, sends.room (told t), so.file.room t, ap length (held t), ap length (so.file.bits_are t));
         others = λ n ne. same_then first.shelf f f2 n (so.file.others n ne) (sends.others n ne);
+        fresh_room = sends.fresh_room ∙ so.file.fresh_room;
+        further = λ t there. sends.further ∙ so.file.further t there;
+        used = λ t none. let q = so.file.used t none in (q.0, subst IsFalse (sym sends.further) q.1);
         lent = sends.lent ∙ so.file.lent;
       };
       unfit = λ fit. no_ok T E e (sends.steady (told fit.tells) (so.file_well fit) (so.file.fresh fit.tells) (append_fits settings spare most first w f f2 o address name empty pool pool2 (Err e) ss s so few h sends refl fit)).0;
       out = so.out;
+      out_well = so.out_well;
       gate = omega (arith, ran.line.gate, h.cause.kept, so.gate);
       shelf_faults = subst (λ (n : ℕ). Rose n f2.faults) so.shelf_faults sends.cause.failed;
       out_faults = so.out_faults;
@@ -164,6 +173,9 @@ file_more settings spare f0 f f2 name pool pool2 x ss s h sends a =
       fresh = λ t. still sends.fresh (h.fresh t);
       room = λ t. omega (arith, sends.room (still h.tells t), h.room t, ap length (all t), ap length (h.bits_are t));
       others = λ n ne. same_then f0 f f2 n (h.others n ne) (sends.others n ne);
+      fresh_room = sends.fresh_room ∙ h.fresh_room;
+      further = λ t there. sends.further ∙ h.further t there;
+      used = λ t none. let q = h.used t none in (q.0, subst IsFalse (sym sends.further) q.1);
       lent = sends.lent ∙ h.lent;
     }
 
@@ -195,6 +207,7 @@ at_out_fault {T} {U} {E} settings spare most first w mid after f f2 o o2 address
       asked = λ t. ran.line.asked ∙ (h.asked ∙ so.asked t);
       well = well_more first.wire w ss s so.wire h so.well;
       file = file_more settings spare first.shelf f f2 name pool pool2 x ss s so.file sends refl;
+      file_well = λ fit. (sends.steady (still so.file.tells fit.tells) (so.file_well fit) (so.file.fresh fit.tells) (append_fits settings spare most first w f f2 o address name empty pool pool2 (Ok x) ss s so (omega (arith, num, few)) h sends refl fit)).1;
       front_is = record {
         rest = drop cut.0 (report_line number end report);
         is = ap (λ (n : ℕ). report_line n end ran.session.report) num ∙ (ap (λ (r : Report). report_line number end r) (sym same) ∙ sym (take-append-drop cut.0 (report_line number end report)));
@@ -261,7 +274,26 @@ file_begins f0 f name x fr = record {
   fresh = λ t. (fr.ok t).2;
   room = λ t. omega (arith, (fr.ok t).3);
   others = fr.touches.others;
+  fresh_room = fr.touches.fresh_room;
+  further = fr.further;
+  used = fr.used;
   lent = fr.touches.lent;
+}
+
+-- `fresh` failed
+pub at_fresh : {T E : Type 0} (settings : Parts) (spare most : ℕ) (w0 : Line) (f0 f : Files) (o : Written ℕ) (name : List ℕ) (e : E) → Freshens {T = T} f0 f name (Err e)
+    → AtFreshFault settings spare (record { wire = w0; shelf = f0; out = o }) (record { wire = w0; shelf = f; out = o }) name most
+at_fresh {T} {E} settings spare most w0 f0 f o name e fr = record {
+  wire = refl;
+  out = refl;
+  tells = fr.touches.tells;
+  file = fr.failed;
+  there = fr.there;
+  fresh_room = fr.touches.fresh_room;
+  others = fr.touches.others;
+  lent = fr.touches.lent;
+  unfit = λ fit. no_ok T E e (fr.steady fit.tells fit.steady fit.proper).0;
+  shelf_faults = fr.touches.faults.failed;
 }
 
 -- `listen` failed
@@ -270,11 +302,13 @@ pub at_listen : {T E F : Type 0} (settings : Parts) (spare most : ℕ) (w0 w : L
 at_listen {T} {E} {F} settings spare most w0 w f0 f o address name x e fr h = record {
   sessions = [];
   few = omega arith;
-  wire = wire_begins w0 w (waited_listen w0 w address (Err e) h) h.opened;
+  wire = wire_begins w0 w (waited_listen w0 w address (Err e) h) h.opened h.is_open;
   asked = h.asked;
   unfit = λ fit. no_ok T F e (h.steady fit.tells fit.steady).0;
   file = file_begins f0 f name x fr;
+  file_well = λ fit. (fr.steady fit.tells fit.steady fit.proper).1;
   out = record { tells = refl; held = λ _. sym (append-nil o.held); room = λ _. omega arith; lent = refl };
+  out_well = λ fit. fit.steady;
   gate = h.cause.failed;
   shelf_faults = fr.touches.faults.kept;
   out_faults = refl;
@@ -284,7 +318,7 @@ at_listen {T} {E} {F} settings spare most w0 w f0 f o address name x e fr h = re
 pub begun : {T U E F : Type 0} (settings : Parts) (spare most : ℕ) (w0 w : Line) (f0 f : Files) (o : Written ℕ) (address name : List ℕ) (pool : Pool) (x : T) (y : U) → Freshens {E = E} f0 f name (Ok x) → Listens {E = F} w0 w address (Ok y) → pool.live ≡ [] → pool.spare ≡ spare
     → SoFar {settings = settings} {spare = spare} (record { wire = w0; shelf = f0; out = o }) (record { wire = w; shelf = f; out = o }) address name most pool []
 begun settings spare most w0 w f0 f o address name pool x y fr h none all = record {
-  wire = wire_begins w0 w (waited_listen w0 w address (Ok y) h) h.opened;
+  wire = wire_begins w0 w (waited_listen w0 w address (Ok y) h) h.opened h.is_open;
   asked = h.asked;
   well = λ fit. record { hear = h.others.hear; say = h.others.say; hang = h.others.hang; steady = (h.steady fit.tells fit.steady).1; none_lost = tt };
   file = file_begins f0 f name x fr;
@@ -307,9 +341,12 @@ all_served settings spare most first now address name pool ss so n = record {
   all = inl n;
   wire = so.wire;
   asked = so.asked;
+  shut = λ t d. so.wire.shut t (elim d [ inl some ↦ inl (omega (arith, some, n)) | inr f ↦ inr f ]);
   well = so.well;
   file = so.file;
+  file_well = so.file_well;
   out = so.out;
+  out_well = so.out_well;
   gate = so.gate;
   shelf_faults = so.shelf_faults;
   out_faults = so.out_faults;

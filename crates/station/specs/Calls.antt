@@ -85,10 +85,12 @@ pub record NoneRose (old new : Line) : Type 0 where
 abbrev pub SomeRose : Line → Line → Type 0
 SomeRose old new = Rose old.gate new.gate ⊎ (Rose old.hear new.hear ⊎ (Rose old.say new.say ⊎ Rose old.hang new.hang))
 
--- The lines of all pages were put.
+-- The lines of all pages were put. A steady output with room for them is steady.
 pub record PutLines (old new : Written ℕ) (outcomes : List Outcome) : Type 0 where
   pub tells : new.tells ≡ old.tells
   pub held : IsTrue old.tells → new.held ≡ old.held ++ outcome_lines outcomes
+  pub room : IsTrue old.tells → new.room + length (outcome_lines outcomes) ≡ old.room
+  pub steady : IsTrue old.tells → IsTrue old.steady → length (outcome_lines outcomes) ≤ old.room → IsTrue new.steady
   pub faults : new.faults ≡ old.faults
   pub lent : new.lent ≡ old.lent
 
@@ -96,6 +98,7 @@ pub record PutLines (old new : Written ℕ) (outcomes : List Outcome) : Type 0 w
 pub record PutFront (old new : Written ℕ) (outcomes : List Outcome) : Type 0 where
   pub tells : new.tells ≡ old.tells
   pub held : IsTrue old.tells → (n : ℕ) × (n ≤ length (outcome_lines outcomes)) × (new.held ≡ old.held ++ take n (outcome_lines outcomes))
+  pub room : IsTrue old.tells → new.room + length new.held ≡ old.room + length old.held
   pub faults : Rose old.faults new.faults
   pub lent : new.lent ≡ old.lent
   pub unsteady : IsTrue old.tells → IsTrue old.steady → length (outcome_lines outcomes) ≤ old.room → ⊥

@@ -1,5 +1,5 @@
 -- What is heard of the bits of a file.
-use Rattle.std.specs.Prelude.{◌≡◌, ℕ, ◌&&◌, Bool, List}
+use Rattle.std.specs.Prelude.{◌≡◌, ℕ, ◌&&◌, Bool, List, IsTrue}
 use Rattle.bits.specs.Bits.{bytes_bits}
 use Rattle.wires.specs.Files.{Files, all_files}
 use Rattle.wires.specs.Left.{Left}
@@ -19,12 +19,13 @@ file_bits name shelf = record {
   lent = shelf.lent;
 }
 
--- What the bits of a file give was printed, by status: `rest` is what is left of them. No file changed, and faults of the shelf are
--- those of reading the bits.
+-- What the bits of a file give was printed, by status: `rest` is what is left of them. No file changed, faults of the shelf are those of
+-- reading the bits, and it is steady where they are.
 pub record HearsFile (printed : List Bool → List ℕ) (name : List ℕ) (old new : Files) (out0 out : Written ℕ) (status : Status) : Type 0 where
   pub rest : Left Bool
   pub listens : Listens printed (file_bits name old) rest out0 out status
   pub faults : new.faults ≡ rest.faults
+  pub steady : IsTrue rest.steady → IsTrue new.steady
   pub tells : new.tells ≡ old.tells
   pub files : all_files new ≡ all_files old
   pub lent : new.lent ≡ old.lent

@@ -1,5 +1,5 @@
 -- The sessions that a station served on the connections of a wire, one after another, and what came of them.
-use Rattle.std.specs.Prelude.{◌≡◌, ◌≢◌, ℕ, ◌+◌, ◌*◌, ◌<◌, ◌≤◌, ◌⊎◌, Bool, List, [], ◌∷◌, ◌++◌, length, flat_map, IsTrue}
+use Rattle.std.specs.Prelude.{◌≡◌, ◌≢◌, ℕ, ◌+◌, ◌*◌, ◌<◌, ◌≤◌, ◌⊎◌, Bool, List, [], ◌∷◌, ◌++◌, length, flat_map, IsTrue, IsFalse}
 use Rattle.air.specs.Air.{IsAir}
 use Rattle.bits.specs.Bits.{bytes_bits}
 use Rattle.page_pool.specs.Pool.{Pool}
@@ -70,7 +70,7 @@ Chain first now [] = Waited first now
 Chain first now (s ∷ ss) = Waited first s.before × Chain s.after now ss
 
 -- The wire opened the first of the connections that were left, one for each session, and the sessions were served there. All other
--- connections are as they were.
+-- connections are as they were. None is open where a session was served, or where none was open at first.
 pub record WireAfter {settings : Parts} {spare : ℕ} (first now : Line) (sessions : List (Served settings spare)) : Type 0 where
   pub tells : now.tells ≡ first.tells
   pub count : now.count ≡ first.count
@@ -79,8 +79,10 @@ pub record WireAfter {settings : Parts} {spare : ℕ} (first now : Line) (sessio
   pub opened : IsTrue first.tells → now.opened ≡ first.opened + length sessions
   pub others : IsTrue first.tells → (k : ℕ) → (k < first.opened ⊎ first.opened + length sessions ≤ k) → now.connection k ≡ first.connection k
   pub served : IsTrue first.tells → AllFrom (IsAt first now) first.opened sessions
+  pub shut : IsTrue first.tells → (0 < length sessions ⊎ IsFalse first.is_open) → IsFalse now.is_open
 
--- The file holds these bits, and its room is lower by what it holds. All other files are as they were.
+-- The file holds these bits, and its room is lower by what it holds. All other files are as they were, and so is the room of a fresh file.
+-- The further file is used up where the name was not there.
 pub record FileAfter (old now : Files) (name : List ℕ) (bits : List Bool) : Type 0 where
   pub tells : now.tells ≡ old.tells
   pub there : IsTrue old.tells → IsTrue (now.there name)
@@ -88,6 +90,9 @@ pub record FileAfter (old now : Files) (name : List ℕ) (bits : List Bool) : Ty
   pub fresh : IsTrue old.tells → IsTrue (now.fresh name)
   pub room : IsTrue old.tells → 8 * now.room name + length bits ≡ 8 * old.fresh_room
   pub others : (other : List ℕ) → other ≢ name → SameAt old now other
+  pub fresh_room : now.fresh_room ≡ old.fresh_room
+  pub further : IsTrue old.tells → IsTrue (old.there name) → now.further ≡ old.further
+  pub used : IsTrue old.tells → IsFalse (old.there name) → IsTrue old.further × IsFalse now.further
   pub lent : now.lent ≡ old.lent
 
 -- these bytes were put

@@ -1,5 +1,5 @@
 -- A station's serving of connections, by how it ended.
-use Rattle.std.specs.Prelude.{◌≡◌, ◌≢◌, ℕ, ◌+◌, ◌*◌, ◌≤◌, ◌⊎◌, Bool, List, [], ◌∷◌, ◌++◌, length, IsTrue, Result, IsOk, OnOk, Option, Some, None}
+use Rattle.std.specs.Prelude.{◌≡◌, ◌≢◌, ℕ, ◌+◌, ◌*◌, ◌<◌, ◌≤◌, ◌⊎◌, Bool, List, [], ◌∷◌, ◌++◌, length, IsTrue, IsFalse, Result, IsOk, OnOk, Option, Some, None}
 use Rattle.air.specs.Air.{IsAir}
 use Rattle.bits.specs.Bits.{bytes_bits}
 use Rattle.page_pool.specs.Pool.{Pool, cells, pages}
@@ -19,17 +19,20 @@ pub record Around : Type 0 where
   pub shelf : Files
   pub out : Written ℕ
 
--- Done: so many connections were served at this address, or all that were left. Their airs are the file, and their lines were put. No count of faults
--- rose but the wire's for hear, say and hang-up, and over a fit wire none of these.
+-- Done: so many connections were served at this address, or all that were left, and none is open. Their airs are the file, and their lines were
+-- put. No count of faults rose but the wire's for hear, say and hang-up, and over a fit wire none of these. Fit objects are steady.
 pub record AtDone (settings : Parts) (spare : ℕ) (old new : Around) (address name : List ℕ) (most : ℕ) : Type 0 where
   pub sessions : List (Served settings spare)
   pub few : length sessions ≤ most
   pub all : (length sessions ≡ most) ⊎ (IsTrue old.wire.tells → new.wire.count ≤ new.wire.opened)
   pub wire : WireAfter old.wire new.wire sessions
   pub asked : IsTrue old.wire.tells → new.wire.asked ≡ address
+  pub shut : IsTrue old.wire.tells → (0 < most ⊎ IsFalse old.wire.is_open) → IsFalse new.wire.is_open
   pub well : FitWire settings spare old.wire → WellServed old.wire new.wire sessions
   pub file : FileAfter old.shelf new.shelf name (airs sessions)
+  pub file_well : FitShelf settings spare old.wire old.shelf name most → IsTrue new.shelf.steady
   pub out : OutAfter old.out new.out (lines 1 sessions)
+  pub out_well : FitOut old.out most → IsTrue new.out.steady
   pub gate : new.wire.gate ≡ old.wire.gate
   pub shelf_faults : new.shelf.faults ≡ old.shelf.faults
   pub out_faults : new.out.faults ≡ old.out.faults
@@ -42,7 +45,9 @@ pub record AtWireFault (settings : Parts) (spare : ℕ) (old new : Around) (addr
   pub asked : IsTrue old.wire.tells → new.wire.asked ≡ address
   pub unfit : FitWire settings spare old.wire → ⊥
   pub file : FileAfter old.shelf new.shelf name (airs sessions)
+  pub file_well : FitShelf settings spare old.wire old.shelf name most → IsTrue new.shelf.steady
   pub out : OutAfter old.out new.out (lines 1 sessions)
+  pub out_well : FitOut old.out most → IsTrue new.out.steady
   pub gate : Rose old.wire.gate new.wire.gate
   pub shelf_faults : new.shelf.faults ≡ old.shelf.faults
   pub out_faults : new.out.faults ≡ old.out.faults
@@ -61,6 +66,7 @@ pub record AtAppendFault (settings : Parts) (spare : ℕ) (old new : Around) (ad
   pub file : FileAfter old.shelf new.shelf name (airs sessions ++ front)
   pub unfit : FitShelf settings spare old.wire old.shelf name most → ⊥
   pub out : OutAfter old.out new.out (lines 1 sessions)
+  pub out_well : FitOut old.out most → IsTrue new.out.steady
   pub gate : new.wire.gate ≡ old.wire.gate
   pub shelf_faults : Rose old.shelf.faults new.shelf.faults
   pub out_faults : new.out.faults ≡ old.out.faults
@@ -71,6 +77,8 @@ pub record AtFreshFault (settings : Parts) (spare : ℕ) (old new : Around) (nam
   pub out : new.out ≡ old.out
   pub tells : new.shelf.tells ≡ old.shelf.tells
   pub file : IsTrue old.shelf.tells → (new.shelf.file name ≡ old.shelf.file name) ⊎ (new.shelf.file name ≡ [])
+  pub there : IsTrue old.shelf.tells → IsTrue (old.shelf.there name) → IsTrue (new.shelf.there name)
+  pub fresh_room : new.shelf.fresh_room ≡ old.shelf.fresh_room
   pub others : (other : List ℕ) → other ≢ name → SameAt old.shelf new.shelf other
   pub lent : new.shelf.lent ≡ old.shelf.lent
   pub unfit : FitShelf settings spare old.wire old.shelf name most → ⊥
@@ -86,6 +94,7 @@ pub record AtOutFault (settings : Parts) (spare : ℕ) (old new : Around) (addre
   pub asked : IsTrue old.wire.tells → new.wire.asked ≡ address
   pub well : FitWire settings spare old.wire → WellServed old.wire new.wire (sessions ++ unreported ∷ [])
   pub file : FileAfter old.shelf new.shelf name (airs (sessions ++ unreported ∷ []))
+  pub file_well : FitShelf settings spare old.wire old.shelf name most → IsTrue new.shelf.steady
   pub front_is : IsFront front (line_for (length sessions + 1) unreported)
   pub out : OutAfter old.out new.out (lines 1 sessions ++ front)
   pub unfit : FitOut old.out most → ⊥
@@ -137,6 +146,8 @@ pub record SendsTo {T E : Type 0} (before after : Pool) (old new : Files) (name 
   pub fresh : new.fresh name ≡ old.fresh name
   pub room : IsTrue old.tells → 8 * new.room name + length (bytes_bits (new.file name)) ≡ 8 * old.room name + length (bytes_bits (old.file name))
   pub others : (other : List ℕ) → other ≢ name → SameAt old new other
+  pub fresh_room : new.fresh_room ≡ old.fresh_room
+  pub further : new.further ≡ old.further
   pub lent : new.lent ≡ old.lent
   pub steady : IsTrue old.tells → IsTrue old.steady → IsTrue (old.fresh name) → length bits ≤ 8 * old.room name → IsOk result × IsTrue new.steady
   pub cause : HasCause old.faults new.faults result

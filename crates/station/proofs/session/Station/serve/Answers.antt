@@ -1,8 +1,11 @@
-use Rattle.std.proofs.Common.{[], refl, ap, ◌∙◌, arith}
+use Rattle.std.proofs.Common.{[], inl, refl, ap, ◌∙◌, arith}
 use Rattle.page_pool.specs.Pool.{cells}
 use Rattle.station.specs.Hall.{Hall}
-use Rattle.station.proofs.Servings.{all_served, at_listen, begun, all_spare}
+use Rattle.station.proofs.Servings.{all_served, at_fresh, at_listen, begun, all_spare}
 use Rattle.station.proofs.session.Station.serve.Goals as goal
+
+pub returns-in-Err-clause-served : goal.returns-in-Err-clause-served
+returns-in-Err-clause-served g c = inl (at_fresh _ _ _ _ _ _ _ _ _ c.in-Err.ensures)
 
 pub returns-in-Err-listen-clause-served : goal.returns-in-Err-listen-clause-served
 returns-in-Err-listen-clause-served g c = at_listen _ _ _ _ _ _ _ _ _ _ _ _ c.in_default.ensures c.in-Err-listen.ensures
