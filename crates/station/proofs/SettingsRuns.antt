@@ -3,6 +3,7 @@ use Rattle.std.proofs.Common.{◌≡◌, inl, inr, ℕ, Bool, List, [], ◌∷�
 use Rattle.std.specs.Borrow.{GName}
 use Rattle.page_pool.specs.Pool.{Pool, cells, in_use}
 use Rattle.subscribers.specs.Parts.{Parts}
+use Rattle.wires.proofs.Written.{and_both}
 use Rattle.wires.specs.Files.{Files, all_files}
 use Rattle.wires.specs.Held.{Held, Lent, OfShelf, OtherFiles, Text}
 use Rattle.wires.specs.Left.{Left}
@@ -102,6 +103,7 @@ tries_file parts spare printed m n name same then ready later from at i0 i old n
         lent = ap (λ (held : List Held). drop 3 held) k.1 ∙ ap (λ (x : Files). x.lent) e;
       };
       faults = refl;
+      steady = λ t. (and_both new.steady (new.there then) t).0;
     }
 
 -- the session of an input was tried by settings

@@ -1,5 +1,5 @@
 -- The commands `station` and `trial`, from their settings on.
-use Rattle.std.specs.Prelude.{◌≡◌, ◌⊎◌, ℕ, ◌&&◌, Bool, List}
+use Rattle.std.specs.Prelude.{◌≡◌, ◌⊎◌, ℕ, ◌&&◌, Bool, List, IsTrue}
 use Rattle.bits.specs.Bits.{bytes_bits}
 use Rattle.subscribers.specs.Parts.{Parts}
 use Rattle.wires.specs.Files.{Files}
@@ -49,7 +49,8 @@ pub record AreFileBits (name : List ℕ) (shelf : Files) (bits : Left Bool) : Ty
   pub steady : bits.steady ≡ (shelf.steady && shelf.there name)
   pub faults : bits.faults ≡ shelf.faults
 
--- The session of an input was tried, with the bits of a file as noise, of which `rest` is left. No file changed.
+-- The session of an input was tried, with the bits of a file as noise, of which `rest` is left. No file changed, and the
+-- shelf is steady where the noise is.
 pub record TriesFile (parts : Parts) (spare : ℕ) (printed : List Bool → List ℕ) (noise : List ℕ) (input0 input : Left ℕ) (old new : Files) (out0 out : Written ℕ) (status : Status) : Type 0 where
   pub bits : Left Bool
   pub rest : Left Bool
@@ -57,6 +58,7 @@ pub record TriesFile (parts : Parts) (spare : ℕ) (printed : List Bool → List
   pub tries : Tries parts spare printed input0 input bits rest out0 out status
   pub kept : KeepsFiles old new
   pub faults : new.faults ≡ rest.faults
+  pub steady : IsTrue rest.steady → IsTrue new.steady
 
 -- The settings were read, and the session of the input tried by them.
 pub record TriedBy (settings noise capcodes : List ℕ) (input0 input : Left ℕ) (old new : Files) (out0 out : Written ℕ) (status : Status) : Type 0 where
