@@ -57,6 +57,7 @@ pub mod Delivered
 pub mod HeardFronts
 pub mod OneOutcomes
 pub mod OneAir
+pub mod OneBytes
 pub mod OneOfOne
 pub mod OneTalks
 pub mod OneServings

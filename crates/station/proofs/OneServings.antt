@@ -20,6 +20,7 @@ use Rattle.station.specs.Serving.{Around, AtDone}
 use Rattle.station.specs.Sessions.{Fits, SessionOf, Stop, Stops, deaf, decided, mute, silent, told}
 use Rattle.station.specs.Talk.{IsFront, here}
 use Rattle.station.proofs.OneAir.{one_air}
+use Rattle.station.proofs.OneBytes.{one_bytes}
 use Rattle.station.proofs.OneTalks.{Comes, same_session}
 
 -- a session that wasn't lost where a reply was cut ended there
@@ -146,6 +147,6 @@ done_alike settings spare most w f f2 o new other address name fit tf tf2 to h k
           | inr behind ↦ ap (λ (c : Connection). c.said) (k.wire.others fit.tells j (inr (omega (arith, behind, a.many))) ∙ sym (h.wire.others fit.tells j (inr behind)))
         ]
       ];
-      sent = k.file.bits_are tf2 ∙ (a.sent ∙ sym (h.file.bits_are tf));
+      sent = one_bytes (other.shelf.file name) (new.shelf.file name) (k.file.of_bytes tf2) (h.file.of_bytes tf) (k.file.bits_are tf2 ∙ (a.sent ∙ sym (h.file.bits_are tf)));
       held = k.out.held to ∙ (ap (λ (z : List ℕ). o.held ++ z) a.told_so ∙ sym (h.out.held to));
     }

@@ -111,7 +111,7 @@ both_refused settings air old new other outcome another h k = (
   k.outcome_is ∙ (ap (λ (x : SettingsFault). Refused x) (one_err (settings_of (old.shelf.file settings)) h.fault k.fault h.settings_are k.settings_are) ∙ sym h.outcome_is),
   record {
     said = λ j. ap (λ (w : Line). (w.connection j).said) (k.wire ∙ sym h.wire);
-    sent = ap bytes_bits (k.file ∙ sym h.file);
+    sent = k.file ∙ sym h.file;
     held = ap (λ (o : Written ℕ). o.held) (k.out ∙ sym h.out);
   },
 )

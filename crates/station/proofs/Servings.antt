@@ -12,6 +12,7 @@ use Rattle.wires.proofs.Written.{no_ok, still}
 use Rattle.wires.specs.Causes.{Rose}
 use Rattle.wires.specs.Files.{Files, Freshens, SameAt}
 use Rattle.wires.specs.Line.{Line, Listens, Opens}
+use Rattle.wires.specs.Stacked.{are_bytes}
 use Rattle.wires.specs.Written.{AppendsFront, Puts, Written}
 use Rattle.station.specs.declared.session.SessionEnd.{SessionEnd}
 use Rattle.station.specs.Hall.{Hall}
@@ -144,6 +145,7 @@ at_append_fault {T} {E} settings spare most first w mid after f f2 o address nam
         tells = sends.tells ∙ so.file.tells;
         there = λ t. still sends.there (so.file.there t);
         bits_are = held;
+        of_bytes = λ t. still (sends.bytes_stay (told t)) (so.file.of_bytes t);
         fresh = λ t. still sends.fresh (so.file.fresh t);
         room = λ t. omega (arith, sends.room (told t), so.file.room t, ap length (held t), ap length (so.file.bits_are t));
         others = λ n ne. same_then first.shelf f f2 n (so.file.others n ne) (sends.others n ne);
@@ -170,6 +172,7 @@ file_more settings spare f0 f f2 name pool pool2 x ss s h sends a =
       tells = sends.tells ∙ h.tells;
       there = λ t. still sends.there (h.there t);
       bits_are = all;
+      of_bytes = λ t. still (sends.bytes_stay (still h.tells t)) (h.of_bytes t);
       fresh = λ t. still sends.fresh (h.fresh t);
       room = λ t. omega (arith, sends.room (still h.tells t), h.room t, ap length (all t), ap length (h.bits_are t));
       others = λ n ne. same_then f0 f f2 n (h.others n ne) (sends.others n ne);
@@ -271,6 +274,7 @@ file_begins f0 f name x fr = record {
   tells = fr.touches.tells;
   there = λ t. (fr.ok t).1;
   bits_are = λ t. ap bytes_bits (fr.ok t).0;
+  of_bytes = λ t. still (ap are_bytes (fr.ok t).0) refl;
   fresh = λ t. (fr.ok t).2;
   room = λ t. omega (arith, (fr.ok t).3);
   others = fr.touches.others;

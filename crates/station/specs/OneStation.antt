@@ -19,11 +19,11 @@ pub record FitStation (settings air : List ℕ) (count : ℕ) (old : Around) : T
   pub shelf : (parts : Parts) → settings_of (old.shelf.file settings) ≡ Ok parts → FitShelf parts parts.cells old.wire old.shelf air count
   pub out : FitOut old.out count
 
--- What was said on each connection, the bits of the file of the air, and what the output holds are the same. What was read at a time,
+-- What was said on each connection, the file of the air, and what the output holds are the same. What was read at a time,
 -- and how far a connection was read beyond the end of its session, may differ.
 pub record SameServing (air : List ℕ) (new other : Around) : Type 0 where
   pub said : (k : ℕ) → (other.wire.connection k).said ≡ (new.wire.connection k).said
-  pub sent : bytes_bits (other.shelf.file air) ≡ bytes_bits (new.shelf.file air)
+  pub sent : other.shelf.file air ≡ new.shelf.file air
   pub held : other.out.held ≡ new.out.held
 
 -- Over fit objects two runs of `station` that had memory come to the same.

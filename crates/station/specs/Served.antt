@@ -7,6 +7,7 @@ use Rattle.subscribers.specs.Parts.{Parts}
 use Rattle.tap_terminal.specs.Desk.{Desk}
 use Rattle.wires.specs.Files.{Files, SameAt, longest_name}
 use Rattle.wires.specs.Line.{IsBlank, Keeps, KeepsConnections, KeepsLineAndHang, Line}
+use Rattle.wires.specs.Stacked.{are_bytes}
 use Rattle.wires.specs.Written.{Written}
 use Rattle.station.specs.declared.session.SessionEnd.{SessionEnd}
 use Rattle.station.specs.declared.session.SessionEnd.TheVariants.{LineLost}
@@ -81,12 +82,13 @@ pub record WireAfter {settings : Parts} {spare : ℕ} (first now : Line) (sessio
   pub served : IsTrue first.tells → AllFrom (IsAt first now) first.opened sessions
   pub shut : IsTrue first.tells → (0 < length sessions ⊎ IsFalse first.is_open) → IsFalse now.is_open
 
--- The file holds these bits, and its room is lower by what it holds. All other files are as they were, and so is the room of a fresh file.
+-- The file holds bytes with these bits, and its room is lower by what it holds. All other files are as they were, and so is the room of a fresh file.
 -- The further file is used up where the name was not there.
 pub record FileAfter (old now : Files) (name : List ℕ) (bits : List Bool) : Type 0 where
   pub tells : now.tells ≡ old.tells
   pub there : IsTrue old.tells → IsTrue (now.there name)
   pub bits_are : IsTrue old.tells → bytes_bits (now.file name) ≡ bits
+  pub of_bytes : IsTrue old.tells → IsTrue (are_bytes (now.file name))
   pub fresh : IsTrue old.tells → IsTrue (now.fresh name)
   pub room : IsTrue old.tells → 8 * now.room name + length bits ≡ 8 * old.fresh_room
   pub others : (other : List ℕ) → other ≢ name → SameAt old now other

@@ -7,6 +7,7 @@ use Rattle.subscribers.specs.Parts.{Parts}
 use Rattle.wires.specs.Causes.{HasCause, Rose}
 use Rattle.wires.specs.Files.{Files, SameAt}
 use Rattle.wires.specs.Line.{Line}
+use Rattle.wires.specs.Stacked.{are_bytes}
 use Rattle.wires.specs.Written.{Appends, Written}
 use Rattle.station.specs.declared.statuses.Status.{Status}
 use Rattle.station.specs.declared.statuses.Status.TheVariants.{Done, FileFault, OutFault, WireFault}
@@ -136,12 +137,13 @@ abbrev pub IsIdle : Pool → Status → Type 0
 IsIdle pool FileFault = Unit {0}
 IsIdle pool other = pool.live ≡ []
 
--- The transmission of a pool's pages was appended to a file, and the pool is empty.
+-- The transmission of a pool's pages was appended to a file, in bytes, and the pool is empty.
 pub record SendsTo {T E : Type 0} (before after : Pool) (old new : Files) (name : List ℕ) (result : Result T E) : Type 0 where
   pub bits : List Bool
   pub is_air : IsAir (pages before) bits
   pub tells : new.tells ≡ old.tells
   pub bits_are : IsTrue old.tells → Appends (bytes_bits (old.file name)) (bytes_bits (new.file name)) bits result
+  pub bytes_stay : IsTrue old.tells → are_bytes (new.file name) ≡ are_bytes (old.file name)
   pub there : new.there name ≡ old.there name
   pub fresh : new.fresh name ≡ old.fresh name
   pub room : IsTrue old.tells → 8 * new.room name + length (bytes_bits (new.file name)) ≡ 8 * old.room name + length (bytes_bits (old.file name))

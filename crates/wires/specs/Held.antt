@@ -41,5 +41,7 @@ pub data Held : Type 0 where
   OfShelf : OtherFiles → Held
   -- what stays of a wire below it
   OfWire : OtherLine → Held
+  -- whether all that was written to a sink below is bytes
+  Bytes : Bool → Held
   -- so many of the things that follow are of the first part, and the others of the second
   Parts : ℕ → Held

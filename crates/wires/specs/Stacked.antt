@@ -1,16 +1,26 @@
 -- What types tell that work on an object below them.
-use Rattle.std.specs.Prelude.{ℕ, ◌+◌, ◌*◌, ◌&&◌, Bool, true, List, [], ◌∷◌, ◌++◌, length, drop, flat_map, Option, option_to_list}
+use Rattle.std.specs.Prelude.{ℕ, ◌+◌, ◌*◌, ◌&&◌, nat_lt, if◌then◌else◌, Bool, true, List, [], ◌∷◌, ◌++◌, length, drop, flat_map, Option, option_to_list}
+use Rattle.std.specs.List.{list_all}
 use Rattle.std.specs.Borrow.{GName}
 use Rattle.std.specs.Int.{to_be_bytes, w32}
 use Rattle.bits.specs.Bits.{bytes_bits, xor}
 use Rattle.wires.specs.Below.{other_files, other_line}
 use Rattle.wires.specs.Files.{Files, all_files}
-use Rattle.wires.specs.Held.{Lent, OfShelf, OfWire, Parts, Text}
+use Rattle.wires.specs.Held.{Bytes, Lent, OfShelf, OfWire, Parts, Text}
 use Rattle.wires.specs.Left.{Left}
 use Rattle.wires.specs.Line.{Line, last}
 use Rattle.wires.specs.Written.{Written}
 
--- bits over a sink of bytes that was lent under this name: the bits of its bytes, and room for eight times as many bits
+-- each of these is below 256
+abbrev pub are_bytes : List ℕ → Bool
+are_bytes xs = list_all (λ b. nat_lt b 256) xs
+
+-- whether all that a sink holds is bytes, where it tells
+abbrev pub holds_bytes : Written ℕ → Bool
+holds_bytes below = if below.tells then are_bytes below.held else true
+
+-- bits over a sink of bytes that was lent under this name: the bits of its bytes, and room for eight times as many bits. Only bytes are
+-- written to it
 abbrev pub bits_over : GName → Written ℕ → Written Bool
 bits_over name below = record {
   tells = below.tells;
@@ -18,7 +28,7 @@ bits_over name below = record {
   room = 8 * below.room;
   steady = below.steady;
   faults = below.faults;
-  lent = Lent name ∷ below.lent;
+  lent = Lent name ∷ Bytes (holds_bytes below) ∷ below.lent;
 }
 
 -- the bytes of words, each word's most significant byte first
