@@ -23,7 +23,7 @@ abbrev are_told : List Held → Bool
 are_told (Lent n ∷ Bytes b ∷ ls) = b
 are_told _ = true
 
-told_back : (b c x y : Bool) → c ≡ b → IsTrue b → (if c then y else true) ≡ (if b then x else true) → y ≡ x
+pub told_back : (b c x y : Bool) → c ≡ b → IsTrue b → (if c then y else true) ≡ (if b then x else true) → y ≡ x
 told_back true true x y e t h = h
 told_back true false x y e t h = absurd cc
 told_back false c x y e t h = absurd cc

@@ -3,6 +3,9 @@ use Rattle.std.proofs.Common.{◌≡◌, ◌≢◌, ℕ, Bool, true, false, List
 use Rattle.air.specs.Air.{IsAir}
 use Rattle.bits.specs.Bits.{bytes_bits}
 use Rattle.tap_block.specs.Chars.{characters}
+use Rattle.wires.proofs.Written.{still}
+use Rattle.wires.specs.Held.{Bytes, Held}
+use Rattle.wires.specs.Stacked.{are_bytes}
 use Rattle.wires.specs.Left.{Left}
 use Rattle.wires.specs.Written.{Written}
 use Rattle.station.specs.declared.statuses.Status.{Status}
@@ -12,6 +15,9 @@ use Rattle.station.specs.LoneBlock.{HasText}
 use Rattle.station.specs.OneOutcome.{FitOne, OneOne, SameOutcome}
 use Rattle.station.specs.Rows.{OneRow, PageSent, ReadBadText, ReadBlock, ReadNoBlock, Streams}
 use Rattle.station.proofs.OneAir.{one_air}
+use Rattle.station.specs.Wrote.{as_bits}
+use Rattle.station.proofs.Appended.{told_back}
+use Rattle.station.proofs.OneBytes.{one_bytes}
 use Rattle.station.proofs.OneAnswer.{one_block, one_text}
 
 -- two readings of a block
@@ -79,5 +85,32 @@ pair c old new other BadSum another fit h k some some2 = elim k [ ]
 pair c old new other BadText another fit h k some some2 = elim k [ ]
 pair c old new other status another fit h k some some2 = elim h [ ]
 
+-- ---- bytes
+
+abbrev bytes_of : List Held → Bool
+bytes_of (Bytes b ∷ ls) = b
+bytes_of _ = true
+
+still_bytes : (old new : Written ℕ) → IsTrue old.tells → new.tells ≡ old.tells → (as_bits new).lent ≡ (as_bits old).lent → IsTrue (are_bytes old.held) → IsTrue (are_bytes new.held)
+still_bytes old new t same lent b = still (told_back old.tells new.tells (are_bytes old.held) (are_bytes new.held) same t (ap bytes_of lent)) b
+
+unchanged_bytes : (old new : Written ℕ) → new ≡ old → IsTrue (are_bytes old.held) → IsTrue (are_bytes new.held)
+unchanged_bytes old new e b = still (ap (λ (o : Written ℕ). are_bytes o.held) e) b
+
+-- whatever it comes to, `one` leaves bytes where there were bytes
+leaves_bytes : (capcode : ℕ) (old new : Streams) (status : Status) → OneRow capcode old new status → IsTrue old.out.tells → IsTrue (are_bytes old.out.held) → IsTrue (are_bytes new.out.held)
+leaves_bytes capcode old new Done h t b = still_bytes old.out new.out t h.1.tells h.1.lent b
+leaves_bytes capcode old new OutFault h t b = still_bytes old.out new.out t h.1.tells h.1.lent b
+leaves_bytes capcode old new NotBlock h t b = unchanged_bytes old.out new.out h.1 b
+leaves_bytes capcode old new BadSum h t b = unchanged_bytes old.out new.out h.1 b
+leaves_bytes capcode old new BadText h t b = unchanged_bytes old.out new.out h.1 b
+leaves_bytes capcode old new InputFault h t b = unchanged_bytes old.out new.out h.1 b
+leaves_bytes capcode old new Memory h t b = unchanged_bytes old.out new.out (ap (λ (s : Streams). s.out) h) b
+leaves_bytes capcode old new other h t b = elim h [ ]
+
 pub one_one : OneOne
-one_one capcode old new other status another fit h k some some2 = pair capcode old.streams new.streams other.streams status another fit h.row k.row some some2
+one_one capcode old new other status another fit h k some some2 =
+    let r = pair capcode old.streams new.streams other.streams status another fit h.row k.row some some2 in (
+      r,
+      λ b. one_bytes other.streams.out.held new.streams.out.held (leaves_bytes capcode old.streams other.streams another k.row fit.tells b) (leaves_bytes capcode old.streams new.streams status h.row fit.tells b) r.makes_alike,
+    )

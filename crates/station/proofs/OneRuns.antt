@@ -73,7 +73,7 @@ acts_alike : (command : Option Command) (old new other : Objects) (outcome anoth
     → outcome ≢ Ended Memory → another ≢ Ended Memory → (another ≡ outcome) × MadeAlike command new other
 acts_alike None old new other outcome another fit h k some some2 = (k.0 ∙ sym h.0, k.1 ∙ sym h.1)
 acts_alike (Some (One capcode)) old new other outcome another fit h k some some2 =
-    came_alike _ _ outcome another (λ s t a b n m. let r = one_one capcode old new other s t fit a b n m in (r.ends_alike, r.makes_alike)) h k some some2
+    came_alike _ _ outcome another (λ s t a b n m. let r = one_one capcode old new other s t fit a b n m in (r.0.ends_alike, r.0.makes_alike)) h k some some2
 acts_alike (Some (Play air capcodes)) old new other outcome another fit h k some some2 =
     came_alike _ _ outcome another (λ s t a b n m. let r = one_play capcodes air old new other s t fit.0 fit.1 a b n m in (r.ends_alike, r.makes_alike)) h k some some2
 acts_alike (Some (Show air)) old new other outcome another fit h k some some2 =

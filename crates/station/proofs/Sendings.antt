@@ -11,8 +11,8 @@ use Rattle.wires.proofs.Written.{no_ok}
 use Rattle.station.specs.Sends.{Sends, SendsAll}
 
 -- what a sink of bytes got, by the bits over it
-same_lent : (from to : GName) (b c : Bool) (old new : List Held) → ◌≡◌ {A = List Held} (Lent to ∷ Bytes c ∷ new) (Lent from ∷ Bytes b ∷ old) → new ≡ old
-same_lent from to b c old new e = ap (drop 2) e
+same_lent : (from to : GName) (b c : Bool) (old new : List Held) → ◌≡◌ {A = List Held} (Lent to ∷ Bytes c ∷ new) (Lent from ∷ Bytes b ∷ old) → ◌≡◌ {A = List Held} (Bytes c ∷ new) (Bytes b ∷ old)
+same_lent from to b c old new e = ap (drop 1) e
 
 sends_all : {T E : Type 0} (from to : GName) (old new : Written ℕ) (bits : List Bool) (r : Result T E) → Puts (bits_over from old) (bits_over to new) bits r → SendsAll old new bits r
 sends_all from to old new bits (Ok x) h = record {

@@ -4,6 +4,7 @@ use Rattle.air.specs.Air.{IsAir}
 use Rattle.bits.specs.Bits.{bytes_bits}
 use Rattle.tap_block.specs.Chars.{characters}
 use Rattle.wires.specs.Files.{Files}
+use Rattle.wires.specs.Stacked.{are_bytes}
 use Rattle.wires.specs.Written.{Written}
 use Rattle.station.specs.declared.statuses.Status.{Status}
 use Rattle.station.specs.declared.statuses.Status.TheVariants.{Memory}
@@ -58,8 +59,8 @@ pub record FitOne (capcode : ℕ) (old : Streams) : Type 0 where
       → length bits ≤ 8 * old.out.room
 
 -- Over a steady input and a steady output with room, two runs of `one` that had memory answer the same, and the output holds the same
--- bits after both.
+-- bits after both, and the same bytes where it held bytes before.
 abbrev pub OneOne : Type 0
 OneOne = (capcode : ℕ) (old new other : Objects) (status another : Status) → FitOne capcode old.streams
     → RunsOne capcode old new status → RunsOne capcode old other another → status ≢ Memory → another ≢ Memory
-    → SameOutcome status another (bytes_bits new.streams.out.held) (bytes_bits other.streams.out.held)
+    → SameOutcome status another (bytes_bits new.streams.out.held) (bytes_bits other.streams.out.held) × (IsTrue (are_bytes old.streams.out.held) → other.streams.out.held ≡ new.streams.out.held)

@@ -1,6 +1,5 @@
 -- Two runs of `station` over the same objects, where no call fails, come to the same.
 use Rattle.std.specs.Prelude.{◌≡◌, ◌≢◌, ℕ, List, Ok, IsTrue}
-use Rattle.bits.specs.Bits.{bytes_bits}
 use Rattle.subscribers.specs.Parts.{Parts}
 use Rattle.subscribers.specs.Settings.{settings_of}
 use Rattle.station.specs.declared.outcomes.Outcome.{Outcome}

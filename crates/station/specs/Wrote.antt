@@ -1,10 +1,12 @@
 -- What a run wrote.
-use Rattle.std.specs.Prelude.{◌≡◌, ℕ, ◌*◌, ◌+◌, ◌≤◌, Bool, List, ◌++◌, length, IsTrue}
+use Rattle.std.specs.Prelude.{◌≡◌, ℕ, ◌*◌, ◌+◌, ◌≤◌, Bool, List, ◌∷◌, ◌++◌, length, IsTrue}
 use Rattle.bits.specs.Bits.{bytes_bits}
 use Rattle.wires.specs.Causes.{Rose}
+use Rattle.wires.specs.Held.{Bytes}
+use Rattle.wires.specs.Stacked.{holds_bytes}
 use Rattle.wires.specs.Written.{Written, AppendsFront}
 
--- a sink of bytes as a sink of their bits
+-- a sink of bytes as a sink of their bits. Only bytes are written to it
 abbrev pub as_bits : Written ℕ → Written Bool
 as_bits sink = record {
   tells = sink.tells;
@@ -12,7 +14,7 @@ as_bits sink = record {
   room = 8 * sink.room;
   steady = sink.steady;
   faults = sink.faults;
-  lent = sink.lent;
+  lent = Bytes (holds_bytes sink) ∷ sink.lent;
 }
 
 -- the piece was written, and no fault was counted
