@@ -1,5 +1,5 @@
--- How much room a station's air takes.
-use Rattle.std.proofs.Common.{◌≡◌, ℕ, suc, ◌+◌, ◌*◌, ◌/◌, ◌≤◌, Bool, true, false, cond, not, nat_lt, List, [], ◌∷◌, ◌++◌, length, length-append, map, Option, Some, None, refl, sym, ap, subst, arith}
+-- How much room a station's air and its replies take.
+use Rattle.std.proofs.Common.{length-take, take, ◌∙◌, ◌≡◌, ℕ, suc, ◌+◌, ◌*◌, ◌/◌, ◌≤◌, Bool, true, false, cond, not, nat_lt, List, [], ◌∷◌, ◌++◌, length, length-append, map, Option, Some, None, refl, sym, ap, subst, arith}
 use Rattle.std.proofs.lemmas.Bool.{ltb-false}
 use Rattle.std.proofs.lemmas.List.{length-map}
 use Rattle.std.proofs.lemmas.List.Sums.{sum_by-cons}
@@ -20,16 +20,19 @@ use Rattle.scheduler.proofs.Schedules.{few_slots}
 use Rattle.subscribers.specs.Parts.{Parts}
 use Rattle.subscribers.specs.declared.subscriber.Subscriber.{Subscriber}
 use Rattle.tap_block.specs.Fields.{parts_of}
-use Rattle.tap_block.specs.Reading.{Entry, empty_line, logon, wrong_line, a_block, a_bye, items_of}
+use Rattle.tap_block.specs.Reading.{BeforeLogon, Entry, empty_line, logon, wrong_line, a_block, a_bye, items_of}
 use Rattle.tap_block.specs.declared.ends.End.{End}
 use Rattle.tap_block.specs.declared.ends.End.TheVariants.{Etx, Etb, Us}
+use Rattle.tap_block.specs.Chars.{char_of, characters}
+use Rattle.tap_terminal.specs.Replies.{replies}
+use Rattle.station.proofs.JoinedLimit.{closing_one, items_few, replies_short, told_few}
 use Rattle.tap_terminal.specs.Desk.{directory_of}
-use Rattle.tap_terminal.specs.Session.{Course, Decided, Session, Told, cells_for_page, decide, is_end, pages_of, start, tell}
+use Rattle.tap_terminal.specs.Session.{answers_of, closing, Course, Decided, Session, Told, cells_for_page, decide, is_end, pages_of, start, tell}
 use Rattle.tap_terminal.specs.Texts.{fits}
 use Rattle.tap_terminal.specs.Verdict.{Directory, Verdict, by_end, fields_for, refused, room_for, text_for, values_of, verdict}
 use Rattle.tap_terminal.specs.declared.answers.Answer.TheVariants.{Ack, Nak}
 use Rattle.tap_terminal.specs.declared.answers.Reason.TheVariants.{Body, Content, Room, Text}
-use Rattle.station.specs.AirRoom.{AirsFit, ShelfFits, most_air}
+use Rattle.station.specs.AirRoom.{AirsFit, ShelfFits, WireFits, most_air}
 use Rattle.station.specs.Served.{airs}
 use Rattle.station.specs.Sessions.{SessionOf}
 
@@ -169,4 +172,26 @@ shelf_fits settings spare most wire shelf name t told steady proper room = recor
       let a = airs_fit settings spare sessions in
       let b : length sessions * most_air spare ≤ most * most_air spare = mul-le-mul_right (most_air spare) few in
       omega (arith, a, b, room);
+}
+
+-- ---- replies
+
+replies_few : (settings : Parts) (spare : ℕ) (bytes : List ℕ) (session : Session) → SessionOf settings spare bytes session → length (replies session.answers) ≤ 6 * length bytes + 6
+replies_few settings spare bytes session h =
+    let x = characters bytes in
+    let told = tell (directory_of settings) (start spare) (items_of settings.password h.pieces) in
+    let a = replies_short session.answers in
+    let b = ap (λ (s : Session). length s.answers) h.session_is ∙ length-append (answers_of told) (closing told (length x)) in
+    let c = closing_one told (length x) in
+    let d = told_few (directory_of settings) (start spare) (items_of settings.password h.pieces) in
+    let e = items_few settings.password BeforeLogon h.pieces h.rest (take 999999 x) h.reads in
+    let f : length (take 999999 x) ≤ length x = simp length-take (omega arith) in
+    let g : length x ≡ length bytes = length-map bytes char_of in
+    omega (arith, a, b, c, d, e, f, g)
+
+pub wire_fits : WireFits
+wire_fits settings spare wire t s room = record {
+  tells = t;
+  steady = s;
+  fits = λ k from lt session is. let a = replies_few settings spare (wire.connection k).rest session is in let b = room k from lt in omega (arith, a, b);
 }

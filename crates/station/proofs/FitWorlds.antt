@@ -1,8 +1,7 @@
 -- Steady objects are fit for a command where they have enough room.
-use Rattle.std.proofs.Common.{◌≡◌, ◌⊎◌, inl, inr, ℕ, zero, suc, ◌+◌, ◌*◌, ◌<◌, ◌≤◌, Bool, List, [], ◌∷◌, ◌++◌, length, length-append, take, codes, decimal, Option, Some, None, Result, Ok, Err, IsTrue, refl, ◌∙◌, ap, ap₂, subst, arith}
+use Rattle.std.proofs.Common.{◌≡◌, inl, inr, ℕ, zero, suc, ◌+◌, ◌*◌, ◌<◌, ◌≤◌, Bool, List, [], ◌∷◌, ◌++◌, length, length-append, codes, decimal, Option, Some, None, Result, Ok, Err, IsTrue, refl, ap, ap₂, subst, arith}
 use Rattle.std.proofs.lemmas.Bool.{cases_lt}
 use Rattle.std.proofs.lemmas.Fmt.{length-decimal-le}
-use Rattle.std.proofs.Math.Seq.{take-append_seam}
 use Rattle.air.specs.Air.{IsAir, transmission}
 use Rattle.bits.specs.Bits.{bytes_bits, words_bits}
 use Rattle.page_text.specs.Page.{Page}
@@ -14,13 +13,7 @@ use Rattle.subscribers.specs.declared.faults.SettingsFault.{SettingsFault}
 use Rattle.tap_block.specs.Chars.{characters}
 use Rattle.tap_entry.specs.declared.faults.PagesFault.{PagesFault}
 use Rattle.tap_entry.specs.declared.faults.PagesFault.TheVariants as Pages
-use Rattle.tap_entry.specs.declared.hearing.Mark.{Mark}
-use Rattle.tap_entry.specs.Client.{Client}
-use Rattle.tap_entry.specs.PagesFile.{IsFile, IsRefused, IsWrongLine, Told}
-use Rattle.tap_entry.proofs.OneClient.{one_client}
-use Rattle.tap_entry.proofs.OneCut.{one_marks, some_marks}
-use Rattle.tap_entry.proofs.OneFile.{one_told}
-use Rattle.tap_entry.proofs.SomeClient.{some_client}
+use Rattle.tap_entry.specs.PagesFile.{IsRefused, IsWrongLine}
 use Rattle.tap_terminal.specs.Desk.{directory_of}
 use Rattle.tap_terminal.specs.Replies.{replies}
 use Rattle.tap_terminal.specs.Session.{Session}
@@ -32,11 +25,10 @@ use Rattle.station.specs.declared.outcomes.Outcome.{Outcome}
 use Rattle.station.specs.declared.outcomes.Outcome.TheVariants.{Ended, Misread, Refused}
 use Rattle.station.specs.declared.statuses.Status.{Status}
 use Rattle.station.specs.declared.statuses.Status.TheVariants.{Done, Usage, Settings, FileFault, WireFault, OutFault, InputFault, NotBlock, BadSum, BadText, TooLong, LogonRefused, SomeUnsent, Memory, BadPages}
-use Rattle.station.specs.AirRoom.{most_air}
+use Rattle.station.specs.AirRoom.{most_air, most_said}
 use Rattle.station.specs.AlphaPage.{alpha_page}
 use Rattle.station.specs.Commands.{Command, One, Play, Send, Show, Station, Trial}
-use Rattle.station.specs.Conversations.{IsSaidFor}
-use Rattle.station.specs.FitWorlds.{AreSteady, FitErrWithRoom, FitInMemory, FitWithRoom, HasFiles, world, roomy}
+use Rattle.station.specs.FitWorlds.{roomy_connection, AreSteady, FitErrWithRoom, FitInMemory, FitWithRoom, HasFiles, world, roomy}
 use Rattle.station.specs.LoneBlock.{HasText}
 use Rattle.station.specs.OneOutcome.{bits_listened}
 use Rattle.station.specs.OneRun.{line_about}
@@ -50,9 +42,9 @@ use Rattle.station.specs.Rows.{Acts, Objects, around}
 use Rattle.station.specs.Sessions.{SessionOf}
 use Rattle.station.specs.Statuses.{line_of}
 use Rattle.station.specs.Table.{table_of}
-use Rattle.station.specs.Talk.{IsFront}
 use Rattle.station.specs.Trying.{trial_lines}
 use Rattle.station.proofs.AirRooms.{air_few, shelf_fits}
+use Rattle.station.proofs.CallRooms.{call_fits}
 use Rattle.station.proofs.OneAir.{one_air}
 
 -- ---- sums of the first values of a function
@@ -81,28 +73,6 @@ replies_fit settings spare rest session h =
 
 abbrev wire_room : Parts → ℕ → Line → ℕ
 wire_room settings spare wire = sum_to (λ k. replies_room settings spare (wire.connection k).rest) wire.count
-
-abbrev said_room : Told → List ℕ → ℕ
-said_room told front = length (some_client told.password told.pages (some_marks (take 999999 (characters front))).0).1.0
-
-said_fits : (told : Told) (front said : List ℕ) → IsSaidFor told front said → length said ≤ said_room told front
-said_fits told front said h =
-    let marks = some_marks (take 999999 (characters front)) in
-    let same : h.marks ≡ marks.0 = one_marks (take 999999 (characters front)) h.marks marks.0 h.marks_are marks.1 in
-    let some = some_client told.password told.pages marks.0 in
-    let c = one_client told.password told.pages marks.0 h.outcomes said some.0 some.1.0 (subst (λ (z : List Mark). Client told.password told.pages z h.outcomes said) same h.client) some.1.1 in
-    omega (arith, ap length c.1)
-
-abbrev call_room : Told → List ℕ → ℕ
-call_room told rest = sum_to (λ n. said_room told (take n rest)) (suc (length rest))
-
-call_fits : (told : Told) (rest front said : List ℕ) → IsFront front rest → IsSaidFor told front said → length said ≤ call_room told rest
-call_fits told rest front said f h =
-    let is : take (length front) rest ≡ front = ap (λ (z : List ℕ). take (length front) z) f.is ∙ take-append_seam front f.rest in
-    let few : length front < suc (length rest) = omega (arith, ap length f.is, length-append front f.rest) in
-    let a = within_sum (λ n. said_room told (take n rest)) (suc (length rest)) (length front) few in
-    let b = said_fits told front said h in
-    omega (arith, a, b, ap (said_room told) is)
 
 abbrev air_of : List Page → List Bool
 air_of [] = []
@@ -178,18 +148,10 @@ fit_trial settings noise capcodes old s h room le = record {
       omega (arith, f, le, ap (trial_by capcodes old.streams.input.left (bytes_bits (old.shelf.file noise))) e);
 }
 
-abbrev SaysOrNot : List ℕ → Type 0
-SaysOrNot bytes = ((told : Told) × IsFile bytes told) ⊎ ((told : Told) → IsFile bytes told → ⊥)
+abbrev send_room : List ℕ → ℕ
+send_room rest = most_said 1000 (length rest) + 20 * 1000
 
-abbrev send_by : (bytes rest : List ℕ) → SaysOrNot bytes → ℕ
-send_by bytes rest (inl h) = call_room h.0 rest + 20 * length h.0.pages
-send_by bytes rest (inr h) = 0
-
-send_fits : (bytes rest : List ℕ) (c : SaysOrNot bytes) (told : Told) → IsFile bytes told → call_room told rest + 20 * length told.pages ≤ send_by bytes rest c
-send_fits bytes rest (inl h) told is = let same : h.0 ≡ told = one_told bytes h.0 told h.1 is in subst (λ (z : Told). call_room z rest + 20 * length z.pages ≤ call_room h.0 rest + 20 * length h.0.pages) same (omega arith)
-send_fits bytes rest (inr h) told is = absurd (h told is)
-
-fit_send : (address pages : List ℕ) (old : Objects) → AreSteady old → (h : HasFiles (Some (Send address pages)) old) → (room : ℕ) → send_by (old.shelf.file pages) (old.wire.connection old.wire.opened).rest h.2 ≤ room
+fit_send : (address pages : List ℕ) (old : Objects) → AreSteady old → (h : HasFiles (Some (Send address pages)) old) → (room : ℕ) → send_room (old.wire.connection old.wire.opened).rest ≤ room
     → FitSend pages (around (roomy room old))
 fit_send address pages old s h room le = record {
   tells = s.shelf_tells;
@@ -198,15 +160,10 @@ fit_send address pages old s h room le = record {
   wire_tells = s.wire_tells;
   wire_steady = s.wire_steady;
   left = h.1;
-  wire_room = λ told is front said f within k.
-      let a = call_fits told (old.wire.connection old.wire.opened).rest front said f k in
-      let b = send_fits (old.shelf.file pages) (old.wire.connection old.wire.opened).rest h.2 told is in
-      omega (arith, a, b, le);
+  wire_room = λ told is. let few = is.whole.few in call_fits (old.shelf.file pages) told (roomy_connection room (old.wire.connection old.wire.opened)) is (omega (arith, few, le));
   out_tells = s.out_tells;
   out_steady = s.out_steady;
-  out_room = λ told is.
-      let b = send_fits (old.shelf.file pages) (old.wire.connection old.wire.opened).rest h.2 told is in
-      omega (arith, b, le);
+  out_room = λ told is. let few = is.whole.few in omega (arith, few, le);
 }
 
 pub fit_with_room : FitWithRoom
@@ -225,7 +182,7 @@ fit_with_room (Some (Play air capcodes)) old s h = (length (play_lines capcodes 
 fit_with_room (Some (Show air)) old s h = (length (table_of (bits_listened air old.shelf)), λ room le. (record { tells = s.shelf_tells; steady = s.shelf_steady; there = h }, record { tells = s.out_tells; steady = s.out_steady; room = le }))
 fit_with_room (Some (Station address settings air count)) old s h = (station_room count old settings, λ room le. fit_station address settings air count old s h room le)
 fit_with_room (Some (Trial settings noise capcodes)) old s h = (trial_room capcodes old settings noise, λ room le. fit_trial settings noise capcodes old s h room le)
-fit_with_room (Some (Send address pages)) old s h = (send_by (old.shelf.file pages) (old.wire.connection old.wire.opened).rest h.2, λ room le. fit_send address pages old s h room le)
+fit_with_room (Some (Send address pages)) old s h = (send_room (old.wire.connection old.wire.opened).rest, λ room le. fit_send address pages old s h room le)
 
 -- ---- the line about an outcome
 
@@ -306,14 +263,14 @@ fit_err_with_room command old t = (
 
 -- ---- objects in memory
 
-has_files : (command : Option Command) (heard input : List ℕ) (file : List ℕ → List ℕ) → ((name : List ℕ) → SaysOrNot (file name)) → HasFiles command (world heard file input)
-has_files None heard input file says = tt
-has_files (Some (One capcode)) heard input file says = tt
-has_files (Some (Play air capcodes)) heard input file says = refl
-has_files (Some (Show air)) heard input file says = refl
-has_files (Some (Station address settings air count)) heard input file says = (refl, inl refl)
-has_files (Some (Trial settings noise capcodes)) heard input file says = (refl, refl)
-has_files (Some (Send address pages)) heard input file says = (refl, omega arith, says pages)
+has_files : (command : Option Command) (heard input : List ℕ) (file : List ℕ → List ℕ) → HasFiles command (world heard file input)
+has_files None heard input file = tt
+has_files (Some (One capcode)) heard input file = tt
+has_files (Some (Play air capcodes)) heard input file = refl
+has_files (Some (Show air)) heard input file = refl
+has_files (Some (Station address settings air count)) heard input file = (refl, inl refl)
+has_files (Some (Trial settings noise capcodes)) heard input file = (refl, refl)
+has_files (Some (Send address pages)) heard input file = (refl, omega arith)
 
 steady_world : (heard input : List ℕ) (file : List ℕ → List ℕ) → AreSteady (world heard file input)
 steady_world heard input file = record { wire_tells = refl; wire_steady = refl; shelf_tells = refl; shelf_steady = refl; input_tells = refl; input_steady = refl; out_tells = refl; out_steady = refl }
@@ -329,9 +286,9 @@ same_err (Some (Trial settings noise capcodes)) room old = refl
 same_err (Some (Send address pages)) room old = refl
 
 pub fit_in_memory : FitInMemory
-fit_in_memory command heard input file says =
+fit_in_memory command heard input file =
     let old = world heard file input in
-    let fit = fit_with_room command old (steady_world heard input file) (has_files command heard input file says) in (
+    let fit = fit_with_room command old (steady_world heard input file) (has_files command heard input file) in (
       fit.0 + err_room command old,
       λ room le. (
         fit.1 room (omega (arith, le)),

@@ -25,7 +25,7 @@ replies_short [] = omega arith
 replies_short (a ∷ answers) = let k = reply_short a in let r = replies_short answers in let e = length-append (reply_of a) (replies answers) in omega (arith, k, r, e)
 
 -- no more is answered than there are items
-told_few : (directory : Directory) (s : Course) (items : List Entry) → length (answers_of (tell directory s items)) ≤ length items
+pub told_few : (directory : Directory) (s : Course) (items : List Entry) → length (answers_of (tell directory s items)) ≤ length items
 told_few directory s [] = omega arith
 told_few directory s (e ∷ items) = by_end_of (is_end (decide directory s e).told.answer) (told_few directory (decide directory s e).course items)
   where
@@ -43,7 +43,7 @@ text_some bye = omega arith
 text_some (dropped b) = omega arith
 text_some (block b e t) = omega arith
 
-items_few : (password : Option (List ℕ)) (mode : Mode) (ps : List Piece) (r x : List ℕ) → Reads password mode ps r x → length (items_of password ps) ≤ length x
+pub items_few : (password : Option (List ℕ)) (mode : Mode) (ps : List Piece) (r x : List ℕ) → Reads password mode ps r x → length (items_of password ps) ≤ length x
 items_few password mode [] r x h = omega arith
 items_few password mode (line l ∷ ps) r x h = let k = items_few password (mode_after password (line l) mode) ps r h.0 h.3 in let e = ap length h.1 ∙ length-append (l ++ cr ∷ []) h.0 in let t = text_some (line l) in omega (arith, k, e, t)
 items_few password mode (skipped c ∷ ps) r x h = let k = items_few password (mode_after password (skipped c) mode) ps r h.0 h.3 in let e = ap length h.1 in omega (arith, k, e)

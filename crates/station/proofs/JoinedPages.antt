@@ -123,7 +123,7 @@ take_over n x y h = let e : n ≡ length x + (n - length x) = omega arith in ap 
 abbrev pub HasRoom : List ℕ → ℕ → ℕ → ℕ → Type 0
 HasRoom x k n more = (length x - 250 * k) + 6 * (count_of x - k) + more ≤ n
 
-block_length : (b : List ℕ) (e : End) → length (block_of b e) ≡ length b + 6
+pub block_length : (b : List ℕ) (e : End) → length (block_of b e) ≡ length b + 6
 block_length b e = let k = length-append (stx ∷ b) (end_char e ∷ (written (sum_of ((stx ∷ b) ++ end_char e ∷ [])) ++ cr ∷ [])) in omega (arith, k)
 
 body_length : (x : List ℕ) (k : ℕ) → length (body_at x k) ≡ min 250 (length x - 250 * k)

@@ -65,6 +65,7 @@ pub mod OneStations
 pub mod OneTrials
 pub mod OneSends
 pub mod AirRooms
+pub mod CallRooms
 pub mod OneCommands
 pub mod OneRuns
 pub mod FitWorlds

@@ -1,9 +1,12 @@
--- How much room a station's air takes.
-use Rattle.std.specs.Prelude.{ℕ, ◌+◌, ◌*◌, ◌≤◌, ◌⊎◌, List, length, IsTrue}
+-- How much room a station's air and its replies take.
+use Rattle.std.specs.Prelude.{ℕ, ◌+◌, ◌*◌, ◌<◌, ◌≤◌, ◌⊎◌, List, length, IsTrue}
 use Rattle.subscribers.specs.Parts.{Parts}
+use Rattle.tap_entry.specs.PagesFile.{IsFile, Told}
 use Rattle.wires.specs.Files.{Files, longest_name}
+use Rattle.wires.specs.Held.{Connection}
 use Rattle.wires.specs.Line.{Line}
-use Rattle.station.specs.Served.{FitShelf, Served, airs}
+use Rattle.station.specs.Conversations.{HasRoom}
+use Rattle.station.specs.Served.{FitShelf, FitWire, Served, airs}
 
 -- the most bytes that the transmission of a session's pages has, by the cells that are spare before it
 abbrev pub most_air : ℕ → ℕ
@@ -17,3 +20,16 @@ AirsFit = (settings : Parts) (spare : ℕ) (sessions : List (Served settings spa
 abbrev pub ShelfFits : Type 0
 ShelfFits = (settings : Parts) (spare most : ℕ) (wire : Line) (shelf : Files) (name : List ℕ) → IsTrue wire.tells → IsTrue shelf.tells → IsTrue shelf.steady
     → (IsTrue (shelf.there name) ⊎ (IsTrue shelf.further × (length name ≤ longest_name))) → most * most_air spare ≤ shelf.fresh_room → FitShelf settings spare wire shelf name most
+
+-- A steady wire is fit where each connection that is left has room for six bytes for each that is to be heard there, and six more.
+abbrev pub WireFits : Type 0
+WireFits = (settings : Parts) (spare : ℕ) (wire : Line) → IsTrue wire.tells → IsTrue wire.steady
+    → ((k : ℕ) → wire.opened ≤ k → k < wire.count → 6 * length (wire.connection k).rest + 6 ≤ (wire.connection k).room) → FitWire settings spare wire
+
+-- the most bytes that a client says for so many pages, where so many bytes are to be heard
+abbrev pub most_said : ℕ → ℕ → ℕ
+most_said pages heard = 14 + 256 * (pages + heard)
+
+-- A connection has room for all that a client may say for a file, where it has room for the most that is said for its pages.
+abbrev pub CallFits : Type 0
+CallFits = (bytes : List ℕ) (told : Told) (c : Connection) → IsFile bytes told → most_said (length told.pages) (length c.rest) ≤ c.room → HasRoom told c

@@ -1,6 +1,5 @@
 -- Steady objects are fit for a command where they have enough room.
 use Rattle.std.specs.Prelude.{◌⊎◌, ℕ, ◌<◌, ◌≤◌, true, false, List, [], length, Option, Some, None, IsTrue}
-use Rattle.tap_entry.specs.PagesFile.{IsFile, Told}
 use Rattle.wires.specs.Files.{Files, longest_name}
 use Rattle.wires.specs.Held.{Connection}
 use Rattle.wires.specs.Left.{Left}
@@ -40,7 +39,7 @@ roomy_streams room s = record { input = s.input; out = roomy_sink room s.out }
 abbrev pub roomy : ℕ → Objects → Objects
 roomy room old = record { wire = roomy_wire room old.wire; shelf = roomy_shelf room old.shelf; streams = roomy_streams room old.streams }
 
--- The files that a command reads are there, and for `send` a connection is left, and the pages file says pages or not.
+-- The files that a command reads are there, and for `send` a connection is left.
 abbrev pub HasFiles : Option Command → Objects → Type 0
 HasFiles None old = Unit {0}
 HasFiles (Some (One capcode)) old = Unit {0}
@@ -48,8 +47,7 @@ HasFiles (Some (Play air capcodes)) old = IsTrue (old.shelf.there air)
 HasFiles (Some (Show air)) old = IsTrue (old.shelf.there air)
 HasFiles (Some (Station address settings air count)) old = IsTrue (old.shelf.there settings) × (IsTrue (old.shelf.there air) ⊎ (IsTrue old.shelf.further × (length air ≤ longest_name)))
 HasFiles (Some (Trial settings noise capcodes)) old = IsTrue (old.shelf.there settings) × IsTrue (old.shelf.there noise)
-HasFiles (Some (Send address pages)) old =
-    IsTrue (old.shelf.there pages) × (old.wire.opened < old.wire.count) × (((told : Told) × IsFile (old.shelf.file pages) told) ⊎ ((told : Told) → IsFile (old.shelf.file pages) told → ⊥))
+HasFiles (Some (Send address pages)) old = IsTrue (old.shelf.there pages) × (old.wire.opened < old.wire.count)
 
 -- For each command, steady objects with its files are fit for it wherever they have so much room or more.
 abbrev pub FitWithRoom : Type 0
@@ -94,8 +92,7 @@ a_sink room = record { tells = true; held = []; room = room; steady = true; faul
 abbrev pub world : List ℕ → (List ℕ → List ℕ) → List ℕ → Objects
 world heard file input = record { wire = one_connection heard; shelf = all_there file; streams = record { input = in_memory input; out = a_sink 0 } }
 
--- For each command, and whatever is to be heard, stands in the files and is to be read, objects in memory are fit with enough room. Each
--- file says pages, or says none.
+-- For each command, and whatever is to be heard, stands in the files and is to be read, objects in memory are fit with enough room.
 abbrev pub FitInMemory : Type 0
-FitInMemory = (command : Option Command) (heard input : List ℕ) (file : List ℕ → List ℕ) → ((name : List ℕ) → ((told : Told) × IsFile (file name) told) ⊎ ((told : Told) → IsFile (file name) told → ⊥))
+FitInMemory = (command : Option Command) (heard input : List ℕ) (file : List ℕ → List ℕ)
     → (enough : ℕ) × ((room : ℕ) → enough ≤ room → FitRun command (roomy room (world heard file input)) × FitErr command (record { objects = roomy room (world heard file input); err = a_sink room }))

@@ -3,7 +3,7 @@
 
 ghost use Rattle.std.specs.Prelude.{◌≡◌, ℕ, Bool, List};
 ghost use Rattle.station.specs.AcceptedPages.{AreAcceptable};
-ghost use Rattle.station.specs.AirRoom.{AirsFit, ShelfFits};
+ghost use Rattle.station.specs.AirRoom.{AirsFit, CallFits, ShelfFits, WireFits};
 ghost use Rattle.station.specs.Delivered.{Delivered};
 ghost use Rattle.station.specs.FitWorlds.{FitErrWithRoom, FitInMemory, FitWithRoom};
 ghost use Rattle.station.specs.Joined.{BothEnds};
@@ -60,10 +60,13 @@ pub fn one_outcome()
     ensures run { OneRun }
 {}
 
-/// The room that a station's air takes, by its cells and connections. So an operator knows that a shelf is fit.
+/// The room that a station's air takes, by its cells and connections, and that its replies take, by what is to be heard. So an operator
+/// knows that a shelf and a wire are fit.
 pub fn air_room()
     ensures airs { AirsFit }
     ensures shelf { ShelfFits }
+    ensures wire { WireFits }
+    ensures call { CallFits }
 {}
 
 /// That the premises of `one_outcome` can be met: whatever a steady wire has to be heard and a steady shelf holds, with enough room the
