@@ -70,10 +70,10 @@ came_alike row row2 (Refused fault) another f h k some some2 = elim h [ ]
 came_alike row row2 (Misread fault) another f h k some some2 = elim h [ ]
 
 acts_alike : (command : Option Command) (old new other : Objects) (outcome another : Outcome) → FitRun command old → Acts command old new outcome → Acts command old other another
-    → outcome ≢ Ended Memory → another ≢ Ended Memory → (another ≡ outcome) × MadeAlike command new other
+    → outcome ≢ Ended Memory → another ≢ Ended Memory → (another ≡ outcome) × MadeAlike command old new other
 acts_alike None old new other outcome another fit h k some some2 = (k.0 ∙ sym h.0, k.1 ∙ sym h.1)
 acts_alike (Some (One capcode)) old new other outcome another fit h k some some2 =
-    came_alike _ _ outcome another (λ s t a b n m. let r = one_one capcode old new other s t fit a b n m in (r.0.ends_alike, r.0.makes_alike)) h k some some2
+    came_alike _ _ outcome another (λ s t a b n m. let r = one_one capcode old new other s t fit a b n m in (r.0.ends_alike, (r.0.makes_alike, r.1))) h k some some2
 acts_alike (Some (Play air capcodes)) old new other outcome another fit h k some some2 =
     came_alike _ _ outcome another (λ s t a b n m. let r = one_play capcodes air old new other s t fit.0 fit.1 a b n m in (r.ends_alike, r.makes_alike)) h k some some2
 acts_alike (Some (Show air)) old new other outcome another fit h k some some2 =

@@ -1,6 +1,7 @@
 -- Two runs of the same words over the same objects, where no call fails, come to the same.
 use Rattle.std.specs.Prelude.{◌≡◌, ◌≢◌, ℕ, ◌≤◌, List, length, Option, Some, None, IsTrue}
 use Rattle.bits.specs.Bits.{bytes_bits}
+use Rattle.wires.specs.Stacked.{are_bytes}
 use Rattle.station.specs.declared.outcomes.Outcome.{Outcome}
 use Rattle.station.specs.declared.outcomes.Outcome.TheVariants.{Ended, Misread, Refused}
 use Rattle.station.specs.declared.statuses.Status.{Status}
@@ -26,13 +27,13 @@ FitRun (Some (Station address settings air count)) old = FitStation settings air
 FitRun (Some (Trial settings noise capcodes)) old = FitTrial settings noise capcodes old.shelf old.streams
 FitRun (Some (Send address pages)) old = FitSend pages (around old)
 
--- what two runs of a command made is the same
-abbrev pub MadeAlike : Option Command → Objects → Objects → Type 0
-MadeAlike None new other = other ≡ new
-MadeAlike (Some (One capcode)) new other = bytes_bits other.streams.out.held ≡ bytes_bits new.streams.out.held
-MadeAlike (Some (Station address settings air count)) new other = SameServing air (around new) (around other)
-MadeAlike (Some (Send address pages)) new other = SameSending (around new) (around other)
-MadeAlike (Some command) new other = other.streams.out.held ≡ new.streams.out.held
+-- what two runs of a command over these objects made is the same
+abbrev pub MadeAlike : Option Command → Objects → Objects → Objects → Type 0
+MadeAlike None old new other = other ≡ new
+MadeAlike (Some (One capcode)) old new other = (bytes_bits other.streams.out.held ≡ bytes_bits new.streams.out.held) × (IsTrue (are_bytes old.streams.out.held) → other.streams.out.held ≡ new.streams.out.held)
+MadeAlike (Some (Station address settings air count)) old new other = SameServing air (around new) (around other)
+MadeAlike (Some (Send address pages)) old new other = SameSending (around new) (around other)
+MadeAlike (Some command) old new other = other.streams.out.held ≡ new.streams.out.held
 
 -- the line about what a command came to
 abbrev pub line_about : Outcome → List ℕ
@@ -47,12 +48,12 @@ pub record FitErr (command : Option Command) (old : Outside) : Type 0 where
   pub room : (new : Objects) (outcome : Outcome) → Acts command old.objects new outcome → length (line_about outcome) ≤ old.err.room
 
 -- Two runs came to the same.
-pub record SameRun (command : Option Command) (new other : Outside) (result another : Status) : Type 0 where
+pub record SameRun (command : Option Command) (old new other : Outside) (result another : Status) : Type 0 where
   pub ends_alike : another ≡ result
-  pub made_alike : MadeAlike command new.objects other.objects
+  pub made_alike : MadeAlike command old.objects new.objects other.objects
   pub err_alike : other.err.held ≡ new.err.held
 
 -- Words are one command's or none's, and over objects that are fit for it two runs that had memory come to the same.
 abbrev pub OneRun : Type 0
 OneRun = (words : List (List ℕ)) (command : Option Command) (old new other : Outside) (result another : Status) → AreCommand words command → FitRun command old.objects → FitErr command old
-    → Runs words old new result → Runs words old other another → result ≢ Memory → another ≢ Memory → SameRun command new other result another
+    → Runs words old new result → Runs words old other another → result ≢ Memory → another ≢ Memory → SameRun command old new other result another
