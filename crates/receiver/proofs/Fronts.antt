@@ -2,9 +2,7 @@
 use Rattle.std.proofs.Common.{◌≡◌, ℕ, Bool, List, [], ◌∷◌, ◌++◌, Option, Some, None, refl, sym, ◌∙◌, ap, ap₂, append_assoc, append-nil}
 use Rattle.receiver.specs.Stretches.{words_of, held_words, after_loss, later_with, stretches_with, stretches}
 use Rattle.receiver.specs.Locks.{Lock, Hunts}
-use Rattle.receiver.specs.declared.front.Front.{Front}
-use Rattle.receiver.specs.declared.front.Front.TheVariants.{Hunt, Lock as Locking}
-use Rattle.receiver.specs.Fronts.{IsPast, HuntsAt, LocksAt, IsAt, FrontStandsFor, HasUnderWay}
+use Rattle.receiver.specs.Fronts.{FrontEnd, Hunt, Locking, IsPast, HuntsAt, LocksAt, IsAt, FrontStandsFor, HasUnderWay}
 use Rattle.receiver.proofs.Locks.{not_lost, held_from-whole}
 use Rattle.receiver.proofs.Stretches.{stretches-is, after_sync-append, after_loss-append}
 
@@ -27,25 +25,25 @@ lock_stretches l bits before words a =
     ∙ ap₂ (λ (s : List ℕ) (o : Option (List Bool)). s ∷ later_with stretches o) w a.holds.held)
 
 -- the stretches of the bits that a front end was fed
-pub front_stretches : (front : Front) (bits : List Bool) (before : List (List ℕ)) (words : Option (List ℕ)) → IsAt front bits before words → stretches bits ≡ so_far before words
+pub front_stretches : (front : FrontEnd) (bits : List Bool) (before : List (List ℕ)) (words : Option (List ℕ)) → IsAt front bits before words → stretches bits ≡ so_far before words
 front_stretches (Hunt hunting) bits before words at = hunt_stretches hunting bits before at.0 ∙ ap (so_far before) (sym at.1)
 front_stretches (Locking locked) bits before words at = lock_stretches locked bits before at.0 at.1 ∙ ap (so_far before) (sym at.2)
 
 -- a lock that was lost is past
-pub lost_is_past : (l : Lock) (bits : List Bool) (before : List (List ℕ)) (words : List ℕ) (b : Bool) → (a : LocksAt l bits before words)
-    → after_loss (a.rest ++ b ∷ []) ≡ Some [] → held_words (a.rest ++ b ∷ []) ≡ words
-    → IsPast (bits ++ b ∷ []) (before ++ words ∷ [])
-lost_is_past l bits before words b a lost is = record {
-  all = λ more.
-      let now = after_loss-append (a.rest ++ b ∷ []) more [] lost in
-      ap (λ (xs : List Bool). stretches ((xs ++ b ∷ []) ++ more)) a.whole
-      ∙ ap stretches (regroup a.past a.window a.rest (b ∷ []) more)
-      ∙ a.earlier.all (a.window ++ ((a.rest ++ b ∷ []) ++ more))
+pub lost_is_past : (l : Lock) (bits : List Bool) (before : List (List ℕ)) (words : List ℕ) (more : List Bool) → (a : LocksAt l bits before words)
+    → after_loss (a.rest ++ more) ≡ Some [] → held_words (a.rest ++ more) ≡ words
+    → IsPast (bits ++ more) (before ++ words ∷ [])
+lost_is_past l bits before words more a lost is = record {
+  all = λ later.
+      let now = after_loss-append (a.rest ++ more) later [] lost in
+      ap (λ (xs : List Bool). stretches ((xs ++ more) ++ later)) a.whole
+      ∙ ap stretches (regroup a.past a.window a.rest more later)
+      ∙ a.earlier.all (a.window ++ ((a.rest ++ more) ++ later))
       ∙ ap (λ (xs : List (List ℕ)). before ++ xs)
-      (stretches-is (a.window ++ ((a.rest ++ b ∷ []) ++ more))
-      ∙ ap (stretches_with stretches) (after_sync-append a.window ((a.rest ++ b ∷ []) ++ more) [] a.found)
+      (stretches-is (a.window ++ ((a.rest ++ more) ++ later))
+      ∙ ap (stretches_with stretches) (after_sync-append a.window ((a.rest ++ more) ++ later) [] a.found)
       ∙ ap₂ (λ (s : List ℕ) (o : Option (List Bool)). s ∷ later_with stretches o) (now.1 ∙ is) now.0)
-      ∙ sym (append_assoc before (words ∷ []) (stretches more));
+      ∙ sym (append_assoc before (words ∷ []) (stretches later));
 }
   where
     regroup : (p w r x y : List Bool) → ((p ++ (w ++ r)) ++ x) ++ y ≡ p ++ (w ++ ((r ++ x) ++ y))

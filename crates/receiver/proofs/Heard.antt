@@ -1,4 +1,4 @@
--- What a step of a front end adds to what is heard.
+-- What a event of a front end adds to what is heard.
 use Rattle.std.proofs.Common.{◌≡◌, ℕ, ◌+◌, ◌*◌, ◌/◌, ◌%◌, ◌<◌, Bool, true, false, List, [], ◌∷◌, ◌++◌, length, length-append, flat_map, Option, Some, None, arith, refl, sym, ◌∙◌, ap, ap₂, append_assoc, append-nil, zero-add, eq-eqb, ne_eqb}
 use Rattle.bits.proofs.Bytes.{flat_map-append}
 use Rattle.codeword.specs.declared.kinds.WordKind.{WordKind}
@@ -8,26 +8,25 @@ use Rattle.receiver.specs.Stretches.{is_sync_place}
 use Rattle.receiver.specs.Slots.{Entry, Batch as BatchEntry, entry_with, slots_from, slots_of, entries_from, stretch_entries}
 use Rattle.receiver.specs.Heard.{HeardPage, pages_from, stretch_pages}
 use Rattle.receiver.specs.UnderWay.{open_from, open_if, open_after, completed}
-use Rattle.receiver.specs.Fronts.{IsAt, FrontStandsFor, HasUnderWay, page_under_way}
-use Rattle.receiver.specs.declared.front.Front.{Front}
-use Rattle.receiver.specs.declared.front.FrontStep.{FrontStep}
-use Rattle.receiver.specs.declared.front.FrontStep.TheVariants.{Still, Batch, Slot, Lost}
-use Rattle.receiver.specs.FrontSteps.{front_after, entry_of, page_after, completed_by, slots_by, Shows, Hears}
+use Rattle.receiver.specs.Fronts.{FrontEnd, IsAt, FrontStandsFor, HasUnderWay, page_under_way}
+use Rattle.receiver.specs.declared.front.FrontEvent.{FrontEvent}
+use Rattle.receiver.specs.declared.front.FrontEvent.TheVariants.{Still, Batch, Slot, Lost}
+use Rattle.receiver.specs.FrontSteps.{entry_of, page_after, completed_by, slots_by, Shows, Hears}
 use Rattle.receiver.proofs.Slots.{slots_of-push, entries_from-push, slot_place}
 use Rattle.receiver.proofs.Pages.{pages_from-push, open_from-push}
 use Rattle.receiver.proofs.Fronts.{so_far, front_stretches}
 use Rattle.receiver.proofs.FrontSteps.{Moves, GoesOn}
 
--- ---- what a step adds to a list that is made of the stretches one by one
+-- ---- what an event adds to a list that is made of the stretches one by one
 
--- how this list of a stretch grows by a step
-abbrev Adds : {X : Type 0} → (List ℕ → List X) → FrontStep → Option (List ℕ) → List X → Type 0
-Adds f (Still front) words more = more ≡ []
-Adds f (Batch front) None more = f [] ≡ more
-Adds f (Batch front) (Some words) more = (word : ℕ) → length words % 17 ≡ 16 → f (words ++ word ∷ []) ≡ f words ++ more
-Adds f (Slot front place word) words more =
+-- how this list of a stretch grows by an event
+abbrev Adds : {X : Type 0} → (List ℕ → List X) → FrontEvent → Option (List ℕ) → List X → Type 0
+Adds f Still words more = more ≡ []
+Adds f Batch None more = f [] ≡ more
+Adds f Batch (Some words) more = (word : ℕ) → length words % 17 ≡ 16 → f (words ++ word ∷ []) ≡ f words ++ more
+Adds f (Slot place word) words more =
     (lock_words : List ℕ) → words ≡ Some lock_words → length lock_words % 17 ≡ place → place < 16 → f (lock_words ++ word ∷ []) ≡ f lock_words ++ more
-Adds f (Lost front) words more = more ≡ []
+Adds f Lost words more = more ≡ []
 
 one_stretch : {X : Type 0} (f : List ℕ → List X) (before : List (List ℕ)) (words : List ℕ) → flat_map f (before ++ words ∷ []) ≡ flat_map f before ++ f words
 one_stretch f before words = flat_map-append f before (words ∷ []) ∙ ap (λ xs. flat_map f before ++ xs) (append-nil (f words))
@@ -38,19 +37,19 @@ longer_stretch f before words after more h =
     one_stretch f before after ∙ ap (λ xs. flat_map f before ++ xs) h ∙ sym (append_assoc (flat_map f before) (f words) more)
     ∙ ap (λ xs. xs ++ more) (sym (one_stretch f before words))
 
-moves_add : {X : Type 0} (f : List ℕ → List X) (step : FrontStep) (before : List (List ℕ)) (words : Option (List ℕ)) (before_after : List (List ℕ)) (words_after : Option (List ℕ)) (more : List X)
-    → Moves step before words before_after words_after → Adds f step words more
+moves_add : {X : Type 0} (f : List ℕ → List X) (event : FrontEvent) (before : List (List ℕ)) (words : Option (List ℕ)) (before_after : List (List ℕ)) (words_after : Option (List ℕ)) (more : List X)
+    → Moves event before words before_after words_after → Adds f event words more
     → flat_map f (so_far before_after words_after) ≡ flat_map f (so_far before words) ++ more
-moves_add f (Still front) before words b2 w2 more m a =
+moves_add f Still before words b2 w2 more m a =
     ap₂ (λ x y. flat_map f (so_far x y)) m.0 m.1 ∙ sym (append-nil (flat_map f (so_far before words))) ∙ ap (λ xs. flat_map f (so_far before words) ++ xs) (sym a)
-moves_add f (Batch front) before None b2 w2 more m a =
+moves_add f Batch before None b2 w2 more m a =
     ap₂ (λ x y. flat_map f (so_far x y)) m.0 m.1 ∙ one_stretch f before [] ∙ ap (λ xs. flat_map f before ++ xs) a
-moves_add f (Batch front) before (Some words) b2 w2 more m a =
+moves_add f Batch before (Some words) b2 w2 more m a =
     ap₂ (λ x y. flat_map f (so_far x y)) m.0 m.1.1 ∙ longer_stretch f before words (words ++ m.1.0 ∷ []) more (a m.1.0 m.1.2)
-moves_add f (Slot front place word) before words b2 w2 more m a =
+moves_add f (Slot place word) before words b2 w2 more m a =
     ap₂ (λ x y. flat_map f (so_far x y)) m.0 m.3 ∙ longer_stretch f before m.1 (m.1 ++ word ∷ []) more (a m.1 m.2 m.4 m.5)
     ∙ ap (λ y. flat_map f (so_far before y) ++ more) (sym m.2)
-moves_add f (Lost front) before words b2 w2 more m a =
+moves_add f Lost before words b2 w2 more m a =
     ap₂ (λ x y. flat_map f (so_far x y)) m.2 m.3 ∙ ap (λ y. flat_map f (so_far before y)) (sym m.1)
     ∙ sym (append-nil (flat_map f (so_far before words))) ∙ ap (λ xs. flat_map f (so_far before words) ++ xs) (sym a)
 
@@ -72,49 +71,49 @@ entry_more words word at place h p =
     ∙ ap (λ (n : ℕ). entries_from 0 words ++ entry_with (is_sync_place n) (n % 17) word ∷ []) (zero-add (length words))
     ∙ ap₂ (λ (x : Bool) (y : ℕ). entries_from 0 words ++ entry_with x y word ∷ []) h p)
 
-adds_entry : (step : FrontStep) (words : Option (List ℕ)) → Adds stretch_entries step words (entry_of step)
+adds_entry : (event : FrontEvent) (words : Option (List ℕ)) → Adds stretch_entries event words (entry_of event)
 unfolding entries_from
-adds_entry (Still front) words = refl
-adds_entry (Batch front) None = refl
-adds_entry (Batch front) (Some words) = λ word p. entry_more words word true 16 (at_sync words p) p
-adds_entry (Slot front place word) words = λ lock_words is p q. entry_more lock_words word false place (at_slot lock_words place p q) p
-adds_entry (Lost front) words = refl
+adds_entry Still words = refl
+adds_entry Batch None = refl
+adds_entry Batch (Some words) = λ word p. entry_more words word true 16 (at_sync words p) p
+adds_entry (Slot place word) words = λ lock_words is p q. entry_more lock_words word false place (at_slot lock_words place p q) p
+adds_entry Lost words = refl
 
 -- ---- the slots
 
-abbrev slot_of : FrontStep → List ℕ
-slot_of (Still front) = []
-slot_of (Batch front) = []
-slot_of (Slot front place word) = word ∷ []
-slot_of (Lost front) = []
+abbrev slot_of : FrontEvent → List ℕ
+slot_of Still = []
+slot_of Batch = []
+slot_of (Slot place word) = word ∷ []
+slot_of Lost = []
 
-adds_slot : (step : FrontStep) (words : Option (List ℕ)) → Adds slots_of step words (slot_of step)
+adds_slot : (event : FrontEvent) (words : Option (List ℕ)) → Adds slots_of event words (slot_of event)
 unfolding slots_from
-adds_slot (Still front) words = refl
-adds_slot (Batch front) None = refl
-adds_slot (Batch front) (Some words) = λ word p. slots_of-push words word true (at_sync words p)
-adds_slot (Slot front place word) words = λ lock_words is p q. slots_of-push lock_words word false (at_slot lock_words place p q)
-adds_slot (Lost front) words = refl
+adds_slot Still words = refl
+adds_slot Batch None = refl
+adds_slot Batch (Some words) = λ word p. slots_of-push words word true (at_sync words p)
+adds_slot (Slot place word) words = λ lock_words is p q. slots_of-push lock_words word false (at_slot lock_words place p q)
+adds_slot Lost words = refl
 
-length-slot_of : (step : FrontStep) → length (slot_of step) ≡ slots_by step
-length-slot_of (Still front) = refl
-length-slot_of (Batch front) = refl
-length-slot_of (Slot front place word) = refl
-length-slot_of (Lost front) = refl
+length-slot_of : (event : FrontEvent) → length (slot_of event) ≡ slots_by event
+length-slot_of Still = refl
+length-slot_of Batch = refl
+length-slot_of (Slot place word) = refl
+length-slot_of Lost = refl
 
 -- ---- the pages
 
-adds_page : (listens : ℕ → Bool) (page : Option HeardPage) (step : FrontStep) (words : Option (List ℕ)) → page ≡ page_under_way listens words
-    → Adds (stretch_pages listens) step words (completed_by page step)
+adds_page : (listens : ℕ → Bool) (page : Option HeardPage) (event : FrontEvent) (words : Option (List ℕ)) → page ≡ page_under_way listens words
+    → Adds (stretch_pages listens) event words (completed_by page event)
 unfolding slots_from pages_from
-adds_page listens page (Still front) words h = refl
-adds_page listens page (Batch front) None h = refl
-adds_page listens page (Batch front) (Some words) h = λ word p.
+adds_page listens page Still words h = refl
+adds_page listens page Batch None h = refl
+adds_page listens page Batch (Some words) h = λ word p.
     ap (pages_from listens 0) (slots_of-push words word true (at_sync words p) ∙ append-nil (slots_of words)) ∙ sym (append-nil (stretch_pages listens words))
-adds_page listens page (Slot front place word) words h = λ lock_words is p q.
+adds_page listens page (Slot place word) words h = λ lock_words is p q.
     ap (pages_from listens 0) (slots_of-push lock_words word false (at_slot lock_words place p q)) ∙ pages_from-push listens 0 (slots_of lock_words) word
     ∙ ap (λ (o : Option HeardPage). stretch_pages listens lock_words ++ completed o (kind_of word)) (sym (h ∙ ap (page_under_way listens) is))
-adds_page listens page (Lost front) words h = refl
+adds_page listens page Lost words h = refl
 
 -- the frame is all that counts of a place
 pub open_after-place : (listens : ℕ → Bool) (p q : ℕ) (page : Option HeardPage) (k : Option WordKind) → p % 16 ≡ q % 16 → open_after listens p page k ≡ open_after listens q page k
@@ -130,11 +129,11 @@ begun listens page None after h b = h ∙ ap (page_under_way listens) (sym b)
 begun listens page (Some words) after h b =
     h ∙ ap (open_from listens 0) (sym (slots_of-push words b.0 true (at_sync words b.2) ∙ append-nil (slots_of words))) ∙ ap (page_under_way listens) (sym b.1)
 
-moves_page : (listens : ℕ → Bool) (page : Option HeardPage) (step : FrontStep) (before : List (List ℕ)) (words : Option (List ℕ)) (before_after : List (List ℕ)) (words_after : Option (List ℕ))
-    → Moves step before words before_after words_after → page ≡ page_under_way listens words → page_after listens page step ≡ page_under_way listens words_after
-moves_page listens page (Still front) before words b2 w2 m h = h ∙ ap (page_under_way listens) (sym m.1)
-moves_page listens page (Batch front) before words b2 w2 m h = begun listens page words w2 h m.1
-moves_page listens page (Slot front place word) before words b2 w2 m h =
+moves_page : (listens : ℕ → Bool) (page : Option HeardPage) (event : FrontEvent) (before : List (List ℕ)) (words : Option (List ℕ)) (before_after : List (List ℕ)) (words_after : Option (List ℕ))
+    → Moves event before words before_after words_after → page ≡ page_under_way listens words → page_after listens page event ≡ page_under_way listens words_after
+moves_page listens page Still before words b2 w2 m h = h ∙ ap (page_under_way listens) (sym m.1)
+moves_page listens page Batch before words b2 w2 m h = begun listens page words w2 h m.1
+moves_page listens page (Slot place word) before words b2 w2 m h =
     let slots = slots_of m.1 in
     let place16 : (0 + length slots) % 16 ≡ place % 16 =
     ap (λ (n : ℕ). n % 16) (zero-add (length slots)) ∙ slot_place m.1 (let p = m.4 in let q = m.5 in omega arith) ∙ (let p = m.4 in let q = m.5 in omega arith) in
@@ -143,44 +142,44 @@ moves_page listens page (Slot front place word) before words b2 w2 m h =
     ∙ sym (open_from-push listens 0 slots word)
     ∙ ap (open_from listens 0) (sym (slots_of-push m.1 word false (at_slot m.1 place m.4 m.5)))
     ∙ ap (page_under_way listens) (sym m.3)
-moves_page listens page (Lost front) before words b2 w2 m h = ap (page_under_way listens) (sym m.3)
+moves_page listens page Lost before words b2 w2 m h = ap (page_under_way listens) (sym m.3)
 
--- ---- each step
+-- ---- each event
 
-abbrev pub AlwaysGoesOn : Front → FrontStep → List Bool → List Bool → Type 0
-AlwaysGoesOn front step old bits = (before : List (List ℕ)) (words : Option (List ℕ)) → IsAt front old before words → GoesOn step before words bits
+abbrev pub AlwaysGoesOn : FrontEnd → FrontEnd → FrontEvent → List Bool → List Bool → Type 0
+AlwaysGoesOn front after event old bits = (before : List (List ℕ)) (words : Option (List ℕ)) → IsAt front old before words → GoesOn after event before words bits
 
-pub shows : (front : Front) (step : FrontStep) (old bits : List Bool) → AlwaysGoesOn front step old bits → FrontStandsFor front old → Shows step old bits
-shows front step old bits goes s =
+pub shows : (front after : FrontEnd) (event : FrontEvent) (old bits : List Bool) → AlwaysGoesOn front after event old bits → FrontStandsFor front old → Shows after event old bits
+shows front after event old bits goes s =
     let g = goes s.before s.words s.at in
     record {
       stands = record { before = g.before_after; words = g.words_after; at = g.at };
       table =
-          ap (flat_map stretch_entries) (front_stretches (front_after step) bits g.before_after g.words_after g.at)
-          ∙ moves_add stretch_entries step s.before s.words g.before_after g.words_after (entry_of step) g.moves (adds_entry step s.words)
-          ∙ ap (λ (xs : List (List ℕ)). flat_map stretch_entries xs ++ entry_of step) (sym (front_stretches front old s.before s.words s.at));
+          ap (flat_map stretch_entries) (front_stretches after bits g.before_after g.words_after g.at)
+          ∙ moves_add stretch_entries event s.before s.words g.before_after g.words_after (entry_of event) g.moves (adds_entry event s.words)
+          ∙ ap (λ (xs : List (List ℕ)). flat_map stretch_entries xs ++ entry_of event) (sym (front_stretches front old s.before s.words s.at));
     }
 
-pub hears : (front : Front) (step : FrontStep) (old bits : List Bool) → AlwaysGoesOn front step old bits
-    → (listens : ℕ → Bool) (page : Option HeardPage) → HasUnderWay listens front page old → Hears listens page step old bits
-hears front step old bits goes listens page s =
+pub hears : (front after : FrontEnd) (event : FrontEvent) (old bits : List Bool) → AlwaysGoesOn front after event old bits
+    → (listens : ℕ → Bool) (page : Option HeardPage) → HasUnderWay listens front page old → Hears listens page after event old bits
+hears front after event old bits goes listens page s =
     let g = goes s.before s.words s.at in
-    let now = front_stretches (front_after step) bits g.before_after g.words_after g.at in
+    let now = front_stretches after bits g.before_after g.words_after g.at in
     let was = sym (front_stretches front old s.before s.words s.at) in
     record {
       stands = record {
         before = g.before_after;
         words = g.words_after;
         at = g.at;
-        page-is = moves_page listens page step s.before s.words g.before_after g.words_after g.moves s.page-is;
+        page-is = moves_page listens page event s.before s.words g.before_after g.words_after g.moves s.page-is;
       };
       pages =
           ap (flat_map (stretch_pages listens)) now
-          ∙ moves_add (stretch_pages listens) step s.before s.words g.before_after g.words_after (completed_by page step) g.moves (adds_page listens page step s.words s.page-is)
-          ∙ ap (λ (xs : List (List ℕ)). flat_map (stretch_pages listens) xs ++ completed_by page step) was;
+          ∙ moves_add (stretch_pages listens) event s.before s.words g.before_after g.words_after (completed_by page event) g.moves (adds_page listens page event s.words s.page-is)
+          ∙ ap (λ (xs : List (List ℕ)). flat_map (stretch_pages listens) xs ++ completed_by page event) was;
       slots =
           ap (λ (xs : List (List ℕ)). length (flat_map slots_of xs)) now
-          ∙ ap length (moves_add slots_of step s.before s.words g.before_after g.words_after (slot_of step) g.moves (adds_slot step s.words))
-          ∙ length-append (flat_map slots_of (so_far s.before s.words)) (slot_of step)
-          ∙ ap₂ (λ (xs : List (List ℕ)) (n : ℕ). length (flat_map slots_of xs) + n) was (length-slot_of step);
+          ∙ ap length (moves_add slots_of event s.before s.words g.before_after g.words_after (slot_of event) g.moves (adds_slot event s.words))
+          ∙ length-append (flat_map slots_of (so_far s.before s.words)) (slot_of event)
+          ∙ ap₂ (λ (xs : List (List ℕ)) (n : ℕ). length (flat_map slots_of xs) + n) was (length-slot_of event);
     }

@@ -5,7 +5,7 @@ use Rattle.std.proofs.lemmas.Bool.{cases_lt, le-leb, lt-leb, and_left}
 use Rattle.std.specs.Int.{from_bool}
 use Rattle.bits.specs.Bits.{bits_of, bit_value, word_bits, number}
 use Rattle.bits.proofs.Numbers.{bits_of-number}
-use Rattle.receiver.specs.Locks.{Holds, lock_of}
+use Rattle.receiver.specs.Locks.{Hunts, Holds, lock_of}
 use Rattle.receiver.specs.Stretches.{first_words, loss_from, near_sync, is_sync, begins_with_sync, some_or, after_sync}
 use Rattle.receiver.specs.Registers.{last_32}
 
@@ -125,3 +125,7 @@ bool_byte_value false = refl
 pub holds_nothing : Holds (lock_of 0 []) []
 unfolding first_words loss_from
 holds_nothing = record { place = refl; partial = refl; held = refl }
+
+pub hunts_nothing : Hunts [] []
+unfolding after_sync
+hunts_nothing = record { last = refl; none = refl }

@@ -1,4 +1,5 @@
 pub mod Capcodes
+pub mod Feeding
 pub mod FrontSteps
 pub mod Fronts
 pub mod Heard

@@ -1,5 +1,5 @@
--- One more bit to a lock.
-use Rattle.std.proofs.Common.{◌≡◌, ℕ, zero, suc, ◌+◌, ◌-◌, ◌*◌, ◌/◌, ◌%◌, ◌^◌, ◌<◌, ◌≤◌, Bool, true, false, List, [], ◌∷◌, ◌++◌, length, length-drop, take, drop, Option, Some, None, option_map, arith, refl, sym, ◌∙◌, ap, ap₂, ◌⊎◌, inl, inr, mul-suc, add-zero, eq-eqb, ne_eqb, zero-add}
+-- Further bits to a lock.
+use Rattle.std.proofs.Common.{◌≡◌, ℕ, zero, suc, ◌+◌, ◌-◌, ◌*◌, ◌/◌, ◌%◌, ◌^◌, ◌<◌, ◌≤◌, Bool, true, false, List, [], ◌∷◌, ◌++◌, length, length-append, length-drop, take, drop, Option, Some, None, option_map, arith, refl, sym, ◌∙◌, ap, ap₂, ◌⊎◌, inl, inr, mul-suc, add-zero, eq-eqb, ne_eqb, zero-add}
 use Rattle.std.proofs.lemmas.List.{drop-append-le, take-append-le, take_all, drop_all, drop-drop}
 use Rattle.bits.specs.Bits.{number}
 use Rattle.bits.proofs.Numbers.{number-lt}
@@ -95,13 +95,13 @@ loss_from-push k (v ∷ ws) w h =
     suc_map l None = refl
     suc_map l (Some n) = let e : suc (l + n) ≡ suc l + n = omega arith in ap (λ (x : ℕ). Some x) e
 
--- ---- one bit more
+-- ---- further bits, up to the end of the word under way
 
--- the lock over these bits takes one more, and keeps these of the word under way
-pub record Taken (lock : Lock) (bits kept : List Bool) (b : Bool) : Type 0 where
+-- the lock over these bits takes more, not beyond the end of the word under way, and keeps these of that word
+pub record Taken (lock : Lock) (bits kept more : List Bool) : Type 0 where
   pub holds : Holds lock bits
-  pub short : length lock.partial < 32
-  pub kept-is : kept ≡ last_32 (lock.partial ++ b ∷ [])
+  pub fits : length lock.partial + length more ≤ 32
+  pub kept-is : kept ≡ lock.partial ++ more
 
 pub not_lost : (bits : List Bool) → after_loss bits ≡ None → loss_from 0 (words_of bits) ≡ None
 not_lost bits h = none_inside (λ n. drop (32 * n) bits) (loss_from 0 (words_of bits)) h
@@ -112,80 +112,85 @@ partial-length lock bits h =
     let e = ap length h.partial in
     omega arith
 
-pub taken_kept : (lock : Lock) (bits kept : List Bool) (b : Bool) → Taken lock bits kept b → kept ≡ drop (32 * (length bits / 32)) (bits ++ b ∷ [])
-taken_kept lock bits kept b t =
-    let l = length-push lock.partial b in
-    let s = t.short in
-    let z : length (lock.partial ++ b ∷ []) - 32 ≡ 0 = omega arith in
-    t.kept-is ∙ ap (λ (n : ℕ). drop n (lock.partial ++ b ∷ [])) z ∙ ap (λ (xs : List Bool). xs ++ b ∷ []) t.holds.partial
-    ∙ sym (drop-append-le (32 * (length bits / 32)) bits (b ∷ []) (omega arith))
+pub taken_kept : (lock : Lock) (bits kept more : List Bool) → Taken lock bits kept more → kept ≡ drop (32 * (length bits / 32)) (bits ++ more)
+taken_kept lock bits kept more t =
+    t.kept-is ∙ ap (λ (xs : List Bool). xs ++ more) t.holds.partial
+    ∙ sym (drop-append-le (32 * (length bits / 32)) bits more (omega arith))
 
-pub taken_length : (lock : Lock) (bits kept : List Bool) (b : Bool) → Taken lock bits kept b → length kept ≡ length bits % 32 + 1
-taken_length lock bits kept b t =
-    let k = ap length (taken_kept lock bits kept b t) in
-    let d = length-drop (32 * (length bits / 32)) (bits ++ b ∷ []) in
-    let l = length-push bits b in
-    omega arith
+pub taken_length : (lock : Lock) (bits kept more : List Bool) → Taken lock bits kept more → (length kept ≡ length bits % 32 + length more) × (length kept ≤ 32)
+taken_length lock bits kept more t =
+    let k = ap length t.kept-is in
+    let p = partial-length lock bits t.holds in
+    let l = length-append lock.partial more in
+    let f = t.fits in
+    (omega arith, omega arith)
+
+-- one bit fits where the word under way isn't whole
+pub taken_one : (lock : Lock) (bits kept : List Bool) (b : Bool) → Holds lock bits → length lock.partial < 32 → kept ≡ last_32 (lock.partial ++ b ∷ []) → Taken lock bits kept (b ∷ [])
+taken_one lock bits kept b h s e =
+    let l = length-push lock.partial b in
+    let z : length (lock.partial ++ b ∷ []) - 32 ≡ 0 = omega arith in
+    record { holds = h; fits = omega arith; kept-is = e ∙ ap (λ (n : ℕ). drop n (lock.partial ++ b ∷ [])) z }
 
 -- no word is whole with it
-pub words_still : (lock : Lock) (bits kept : List Bool) (b : Bool) → Taken lock bits kept b → length kept < 32 → words_of (bits ++ b ∷ []) ≡ words_of bits
-words_still lock bits kept b t h =
-    let n = taken_length lock bits kept b t in
-    let l = length-push bits b in
-    let e : length (bits ++ b ∷ []) / 32 ≡ length bits / 32 = omega arith in
-    ap (λ (k : ℕ). first_words k (bits ++ b ∷ [])) e ∙ first_words-append (length bits / 32) bits (b ∷ []) (omega arith)
+pub words_still : (lock : Lock) (bits kept more : List Bool) → Taken lock bits kept more → length kept < 32 → words_of (bits ++ more) ≡ words_of bits
+words_still lock bits kept more t h =
+    let n = taken_length lock bits kept more t in
+    let l = length-append bits more in
+    let e : length (bits ++ more) / 32 ≡ length bits / 32 = omega arith in
+    ap (λ (k : ℕ). first_words k (bits ++ more)) e ∙ first_words-append (length bits / 32) bits more (omega arith)
 
 -- one more word
-pub words_more : (lock : Lock) (bits kept : List Bool) (b : Bool) → Taken lock bits kept b → 32 ≤ length kept → words_of (bits ++ b ∷ []) ≡ words_of bits ++ number kept ∷ []
-words_more lock bits kept b t h =
-    let n = taken_length lock bits kept b t in
-    let l = length-push bits b in
-    let e : length (bits ++ b ∷ []) / 32 ≡ suc (length bits / 32) = omega arith in
-    ap (λ (k : ℕ). first_words k (bits ++ b ∷ [])) e ∙ first_words-suc (length bits / 32) (bits ++ b ∷ [])
+pub words_more : (lock : Lock) (bits kept more : List Bool) → Taken lock bits kept more → 32 ≤ length kept → words_of (bits ++ more) ≡ words_of bits ++ number kept ∷ []
+words_more lock bits kept more t h =
+    let n = taken_length lock bits kept more t in
+    let l = length-append bits more in
+    let e : length (bits ++ more) / 32 ≡ suc (length bits / 32) = omega arith in
+    ap (λ (k : ℕ). first_words k (bits ++ more)) e ∙ first_words-suc (length bits / 32) (bits ++ more)
     ∙ ap₂ (λ (xs : List ℕ) (ys : List Bool). xs ++ number ys ∷ [])
-    (first_words-append (length bits / 32) bits (b ∷ []) (omega arith))
-    (ap (take 32) (sym (taken_kept lock bits kept b t)) ∙ take_all 32 kept (omega arith))
+    (first_words-append (length bits / 32) bits more (omega arith))
+    (ap (take 32) (sym (taken_kept lock bits kept more t)) ∙ take_all 32 kept (omega arith))
 
 pub place_words : (lock : Lock) (bits : List Bool) → Holds lock bits → lock.place ≡ length (words_of bits) % 17
 place_words lock bits h = h.place ∙ ap (λ (n : ℕ). n % 17) (sym (length-first_words (length bits / 32) bits))
 
-pub lock_still : (lock : Lock) (bits kept : List Bool) (b : Bool) → Taken lock bits kept b → length kept < 32
-    → Holds (lock_of lock.place kept) (bits ++ b ∷ []) × (words_of (bits ++ b ∷ []) ≡ words_of bits)
-lock_still lock bits kept b t h =
-    let n = taken_length lock bits kept b t in
-    let l = length-push bits b in
-    let e : length (bits ++ b ∷ []) / 32 ≡ length bits / 32 = omega arith in
-    let w = words_still lock bits kept b t h in (
+pub lock_still : (lock : Lock) (bits kept more : List Bool) → Taken lock bits kept more → length kept < 32
+    → Holds (lock_of lock.place kept) (bits ++ more) × (words_of (bits ++ more) ≡ words_of bits)
+lock_still lock bits kept more t h =
+    let n = taken_length lock bits kept more t in
+    let l = length-append bits more in
+    let e : length (bits ++ more) / 32 ≡ length bits / 32 = omega arith in
+    let w = words_still lock bits kept more t h in (
       record {
         place = t.holds.place ∙ ap (λ (k : ℕ). k % 17) (sym e);
-        partial = taken_kept lock bits kept b t ∙ ap (λ (k : ℕ). drop (32 * k) (bits ++ b ∷ [])) (sym e);
-        held = ap (option_map (λ n. drop (32 * n) (bits ++ b ∷ []))) (ap (loss_from 0) w ∙ not_lost bits t.holds.held);
+        partial = taken_kept lock bits kept more t ∙ ap (λ (k : ℕ). drop (32 * k) (bits ++ more)) (sym e);
+        held = ap (option_map (λ n. drop (32 * n) (bits ++ more))) (ap (loss_from 0) w ∙ not_lost bits t.holds.held);
       },
       w,
     )
 
 -- a whole word at its place: what is left of the bits is nothing
-pub nothing_left : (lock : Lock) (bits kept : List Bool) (b : Bool) → Taken lock bits kept b → 32 ≤ length kept
-    → (length (bits ++ b ∷ []) / 32 ≡ suc (length bits / 32)) × (drop (32 * (length (bits ++ b ∷ []) / 32)) (bits ++ b ∷ []) ≡ [])
-nothing_left lock bits kept b t h =
-    let n = taken_length lock bits kept b t in
-    let l = length-push bits b in
-    let e : length (bits ++ b ∷ []) / 32 ≡ suc (length bits / 32) = omega arith in
-    (e, drop_all (32 * (length (bits ++ b ∷ []) / 32)) (bits ++ b ∷ []) (omega arith))
+pub nothing_left : (lock : Lock) (bits kept more : List Bool) → Taken lock bits kept more → 32 ≤ length kept
+    → (length (bits ++ more) / 32 ≡ suc (length bits / 32)) × (drop (32 * (length (bits ++ more) / 32)) (bits ++ more) ≡ [])
+nothing_left lock bits kept more t h =
+    let n = taken_length lock bits kept more t in
+    let l = length-append bits more in
+    let e : length (bits ++ more) / 32 ≡ suc (length bits / 32) = omega arith in
+    (e, drop_all (32 * (length (bits ++ more) / 32)) (bits ++ more) (omega arith))
 
 -- the word that is whole now isn't one that loses the lock
-pub lock_goes_on : (lock : Lock) (bits kept : List Bool) (b : Bool) (place : ℕ) → Taken lock bits kept b → 32 ≤ length kept
+pub lock_goes_on : (lock : Lock) (bits kept more : List Bool) (place : ℕ) → Taken lock bits kept more → 32 ≤ length kept
     → (is_sync_place (length (words_of bits)) ≡ false) ⊎ (is_sync (number kept) ≡ true)
     → place ≡ suc (length bits / 32) % 17
-    → Holds (lock_of place []) (bits ++ b ∷ [])
-lock_goes_on lock bits kept b place t h ok p =
-    let left = nothing_left lock bits kept b t h in
+    → Holds (lock_of place []) (bits ++ more)
+lock_goes_on lock bits kept more place t h ok p =
+    let left = nothing_left lock bits kept more t h in
     let ws = words_of bits in
     record {
       place = p ∙ ap (λ (k : ℕ). k % 17) (sym left.0);
       partial = sym left.1;
-      held = ap (option_map (λ n. drop (32 * n) (bits ++ b ∷ [])))
-          (ap (loss_from 0) (words_more lock bits kept b t h) ∙ loss_from-push 0 ws (number kept) (not_lost bits t.holds.held)
+      held = ap (option_map (λ n. drop (32 * n) (bits ++ more)))
+          (ap (loss_from 0) (words_more lock bits kept more t h) ∙ loss_from-push 0 ws (number kept) (not_lost bits t.holds.held)
           ∙ ap (λ (n : ℕ). option_map (λ m. length ws + m) (loss_with (is_sync_place n) (is_sync (number kept)) None)) (zero-add (length ws))
           ∙ ap (option_map (λ m. length ws + m)) (loss_keeps (is_sync_place (length ws)) (is_sync (number kept)) None ok));
     }
@@ -196,50 +201,50 @@ at_slot lock bits h p = let q = place_words lock bits h in ne_eqb (length (words
 at_sync : (lock : Lock) (bits : List Bool) → Holds lock bits → 16 ≤ lock.place → is_sync_place (length (words_of bits)) ≡ true
 at_sync lock bits h p = let q = place_words lock bits h in eq-eqb (length (words_of bits) % 17) 16 (omega arith)
 
-pub number-kept-lt : (lock : Lock) (bits kept : List Bool) (b : Bool) → Taken lock bits kept b → 32 ≤ length kept → number kept < 2 ^ 32
-number-kept-lt lock bits kept b t h =
-    let n = taken_length lock bits kept b t in
+pub number-kept-lt : (lock : Lock) (bits kept more : List Bool) → Taken lock bits kept more → 32 ≤ length kept → number kept < 2 ^ 32
+number-kept-lt lock bits kept more t h =
+    let n = taken_length lock bits kept more t in
     let e : length kept ≡ 32 = omega arith in
     let l = number-lt kept in
     rw e at l
 
-pub lock_slot : (lock : Lock) (bits kept : List Bool) (b : Bool) → Taken lock bits kept b → 32 ≤ length kept → lock.place < 16
-    → Holds (lock_of (lock.place + 1) []) (bits ++ b ∷ []) × (words_of (bits ++ b ∷ []) ≡ words_of bits ++ number kept ∷ [])
+pub lock_slot : (lock : Lock) (bits kept more : List Bool) → Taken lock bits kept more → 32 ≤ length kept → lock.place < 16
+    → Holds (lock_of (lock.place + 1) []) (bits ++ more) × (words_of (bits ++ more) ≡ words_of bits ++ number kept ∷ [])
     × (length (words_of bits) % 17 ≡ lock.place) × (lock.place < 16) × (number kept < 2 ^ 32)
-lock_slot lock bits kept b t h p =
+lock_slot lock bits kept more t h p =
     let q = t.holds.place in
     let slot = at_slot lock bits t.holds p in (
-      lock_goes_on lock bits kept b (lock.place + 1) t h (inl slot) (omega arith),
-      words_more lock bits kept b t h,
+      lock_goes_on lock bits kept more (lock.place + 1) t h (inl slot) (omega arith),
+      words_more lock bits kept more t h,
       sym (place_words lock bits t.holds),
       p,
-      number-kept-lt lock bits kept b t h,
+      number-kept-lt lock bits kept more t h,
     )
 
-pub lock_batch : (lock : Lock) (bits kept : List Bool) (b : Bool) → Taken lock bits kept b → 32 ≤ length kept → 16 ≤ lock.place → is_sync (number kept) ≡ true
-    → Holds (lock_of 0 []) (bits ++ b ∷ []) × (word : ℕ) × (words_of (bits ++ b ∷ []) ≡ words_of bits ++ word ∷ []) × (length (words_of bits) % 17 ≡ 16)
-lock_batch lock bits kept b t h p good =
+pub lock_batch : (lock : Lock) (bits kept more : List Bool) → Taken lock bits kept more → 32 ≤ length kept → 16 ≤ lock.place → is_sync (number kept) ≡ true
+    → Holds (lock_of 0 []) (bits ++ more) × (word : ℕ) × (words_of (bits ++ more) ≡ words_of bits ++ word ∷ []) × (length (words_of bits) % 17 ≡ 16)
+lock_batch lock bits kept more t h p good =
     let q = t.holds.place in
     let r = place_words lock bits t.holds in (
-      lock_goes_on lock bits kept b 0 t h (inr good) (omega arith),
+      lock_goes_on lock bits kept more 0 t h (inr good) (omega arith),
       number kept,
-      words_more lock bits kept b t h,
+      words_more lock bits kept more t h,
       omega arith,
     )
 
-pub lock_lost : (lock : Lock) (bits kept : List Bool) (b : Bool) → Taken lock bits kept b → 32 ≤ length kept → 16 ≤ lock.place → is_sync (number kept) ≡ false
-    → (after_loss (bits ++ b ∷ []) ≡ Some []) × (held_words (bits ++ b ∷ []) ≡ words_of bits)
-lock_lost lock bits kept b t h p bad =
+pub lock_lost : (lock : Lock) (bits kept more : List Bool) → Taken lock bits kept more → 32 ≤ length kept → 16 ≤ lock.place → is_sync (number kept) ≡ false
+    → (after_loss (bits ++ more) ≡ Some []) × (held_words (bits ++ more) ≡ words_of bits)
+lock_lost lock bits kept more t h p bad =
     let place = at_sync lock bits t.holds p in
     let ws = words_of bits in
-    let left = nothing_left lock bits kept b t h in
-    let n : length ws + 1 ≡ length (bits ++ b ∷ []) / 32 = (let e = length-first_words (length bits / 32) bits in omega (arith, left.0)) in (
-      ap (option_map (λ n. drop (32 * n) (bits ++ b ∷ [])))
-          (ap (loss_from 0) (words_more lock bits kept b t h) ∙ loss_from-push 0 ws (number kept) (not_lost bits t.holds.held)
+    let left = nothing_left lock bits kept more t h in
+    let n : length ws + 1 ≡ length (bits ++ more) / 32 = (let e = length-first_words (length bits / 32) bits in omega (arith, left.0)) in (
+      ap (option_map (λ n. drop (32 * n) (bits ++ more)))
+          (ap (loss_from 0) (words_more lock bits kept more t h) ∙ loss_from-push 0 ws (number kept) (not_lost bits t.holds.held)
           ∙ ap (λ (n : ℕ). option_map (λ m. length ws + m) (loss_with (is_sync_place n) (is_sync (number kept)) None)) (zero-add (length ws))
           ∙ ap₂ (λ (x y : Bool). option_map (λ m. length ws + m) (loss_with x y None)) place bad)
-          ∙ ap (λ (k : ℕ). Some (drop (32 * k) (bits ++ b ∷ []))) n ∙ ap (λ (xs : List Bool). Some xs) left.1,
-      ap (held_from 0) (words_more lock bits kept b t h)
+          ∙ ap (λ (k : ℕ). Some (drop (32 * k) (bits ++ more))) n ∙ ap (λ (xs : List Bool). Some xs) left.1,
+      ap (held_from 0) (words_more lock bits kept more t h)
           ∙ held_from-lost 0 ws (number kept) (not_lost bits t.holds.held) (ap is_sync_place (zero-add (length ws)) ∙ place) bad,
     )
 

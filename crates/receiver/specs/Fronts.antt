@@ -1,12 +1,20 @@
 -- Where a front end, a hunt or a lock, is in the bits that it was fed.
-use Rattle.std.specs.Prelude.{◌≡◌, ℕ, Bool, List, [], ◌++◌, Option, Some, None}
+use Rattle.std.specs.Prelude.{◌≡◌, ℕ, Bool, true, false, List, [], ◌++◌, Option, Some, None}
 use Rattle.receiver.specs.Stretches.{stretches, after_sync, words_of}
 use Rattle.receiver.specs.Slots.{slots_of}
-use Rattle.receiver.specs.Locks.{Lock, Hunts, Holds}
+use Rattle.receiver.specs.Locks.{Lock, lock_of, Hunts, Holds}
 use Rattle.receiver.specs.Heard.{HeardPage}
 use Rattle.receiver.specs.UnderWay.{open_from}
-use Rattle.receiver.specs.declared.front.Front.{Front}
-use Rattle.receiver.specs.declared.front.Front.TheVariants.{Hunt, Lock as Locking}
+
+-- a front end: a hunt that keeps these bits, or a lock
+pub data FrontEnd : Type 0 where
+  Hunt : List Bool → FrontEnd
+  Locking : Lock → FrontEnd
+
+-- a front end, of its parts: whether it is a lock, the place of a lock's next word, and the bits that it keeps
+abbrev pub front_of : Bool → ℕ → List Bool → FrontEnd
+front_of true place kept = Locking (lock_of place kept)
+front_of false place kept = Hunt kept
 
 -- The bits end where a lock was lost, or are none. These are their stretches, and what follows gives its own.
 pub record IsPast (past : List Bool) (before : List (List ℕ)) : Type 0 where
@@ -32,7 +40,7 @@ pub record LocksAt (locked : Lock) (bits : List Bool) (before : List (List ℕ))
   pub words-is : words ≡ words_of rest
 
 -- the bits end in this hunt or lock, which follows these stretches, and a lock has these words so far
-abbrev pub IsAt : Front → List Bool → List (List ℕ) → Option (List ℕ) → Type 0
+abbrev pub IsAt : FrontEnd → List Bool → List (List ℕ) → Option (List ℕ) → Type 0
 IsAt (Hunt hunting) bits before words = HuntsAt hunting bits before × (words ≡ None)
 IsAt (Locking locked) bits before words = (lock_words : List ℕ) × LocksAt locked bits before lock_words × (words ≡ Some lock_words)
 
@@ -42,13 +50,13 @@ page_under_way listens None = None
 page_under_way listens (Some words) = open_from listens 0 (slots_of words)
 
 -- the front end was fed these bits
-pub record FrontStandsFor (front : Front) (bits : List Bool) : Type 0 where
+pub record FrontStandsFor (front : FrontEnd) (bits : List Bool) : Type 0 where
   pub before : List (List ℕ)
   pub words : Option (List ℕ)
   pub at : IsAt front bits before words
 
 -- the front end was fed these bits, and this page is under way at their end
-pub record HasUnderWay (listens : ℕ → Bool) (front : Front) (page : Option HeardPage) (bits : List Bool) : Type 0 where
+pub record HasUnderWay (listens : ℕ → Bool) (front : FrontEnd) (page : Option HeardPage) (bits : List Bool) : Type 0 where
   pub before : List (List ℕ)
   pub words : Option (List ℕ)
   pub at : IsAt front bits before words

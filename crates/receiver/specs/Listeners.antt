@@ -2,8 +2,7 @@
 use Rattle.std.specs.Prelude.{ℕ, ◌==◌, Bool, List, [], ◌∷◌, Option, Some, None, option_map}
 use Rattle.std.specs.List.{list_any}
 use Rattle.receiver.specs.Heard.{HeardPage}
-use Rattle.receiver.specs.Fronts.{HasUnderWay}
-use Rattle.receiver.specs.declared.front.Front.{Front}
+use Rattle.receiver.specs.Fronts.{FrontEnd, HasUnderWay}
 use Rattle.receiver.specs.declared.ready.Ready.{Ready}
 
 -- the page under way, and the page that the last bit completed
@@ -29,13 +28,13 @@ gathered_of page ready groups = record {
 
 -- a front end, the capcodes that are listened to, the page under way, and the page that the last bit completed
 pub record Listener : Type 0 where
-  pub front : Front
+  pub front : FrontEnd
   pub capcodes : List ℕ
   pub under_way : Option HeardPage
   pub ready : Option HeardPage
 
 -- a listener, of its parts
-abbrev pub listener_of : Front → List ℕ → Gathered → Listener
+abbrev pub listener_of : FrontEnd → List ℕ → Gathered → Listener
 listener_of front capcodes gathered = record { front = front; capcodes = capcodes; under_way = gathered.under_way; ready = gathered.ready }
 
 -- the capcode is one of these

@@ -87,7 +87,8 @@ impl Hunting {
     pub fn feed(self, bit: bool) -> HuntStep
         ensures step { (bits : List Bool) → Hunts self bits → HuntGoesOn result (bits ++ bit ∷ []) }
     {
-        let register = self.register.push(bit);
+        let mut register = self.register;
+        register.push(bit);
         if register.is_full() && is_sync(register.word()) {
             HuntStep::Found(Locked::new())
         } else {
@@ -117,7 +118,8 @@ impl Locked {
         ensures step { (bits : List Bool) → Holds self bits → LockGoesOn result bits (bits ++ bit ∷ []) }
         ensures place { HasSlotPlace result }
     {
-        let register = self.register.push(bit);
+        let mut register = self.register;
+        register.push(bit);
         if !register.is_full() {
             return LockStep::Still(Locked {
                 place: self.place,
@@ -142,24 +144,38 @@ impl Locked {
     }
 }
 
-/// A front end: a hunt or a lock.
+/// A front end: a hunt or a lock, changed in place.
 #[derive(Drop)]
-pub enum Front {
-    Hunt(Hunting),
-    Lock(Locked),
+pub struct Front {
+    /// The last bits that came in a hunt, or the bits of a lock's next word that have come.
+    register: Register,
+    is_locked: bool,
+    /// The place of a lock's next word.
+    place: u32,
 }
 
-/// What a front end does at a bit.
-#[derive(Drop)]
-pub enum FrontStep {
+impl Model for Front {
+    ghost use Rattle.std.specs.Prelude.{◌≡◌, ◌≤◌, ◌<◌, length, true};
+    ghost use Rattle.receiver.specs.Fronts.{FrontEnd, front_of};
+
+    ghost Value = { FrontEnd };
+
+    ghost view = { λ f. front_of f.is_locked f.place f.register };
+
+    ghost invariant = { λ f. (f.place ≤ 16) × (f.is_locked ≡ true → length f.register < 32) };
+}
+
+/// What a front end meets at a bit.
+#[derive(Clone, Copy, Debug, PartialEq, Eq)]
+pub enum FrontEvent {
     /// The bit completes no sync word and no slot, and the lock isn't lost.
-    Still(Front),
+    Still,
     /// A sync word was found, or is good at its place.
-    Batch(Front),
+    Batch,
     /// The bit completes the word of a slot: the place, 0 to 15, and the word as heard.
-    Slot(Front, u32, u32),
+    Slot(u32, u32),
     /// The lock is lost.
-    Lost(Front),
+    Lost,
 }
 
 impl Front {
@@ -174,30 +190,46 @@ impl Front {
         ensures stands { FrontStandsFor result [] }
         ensures page { (listens : ℕ → Bool) → HasUnderWay listens result None [] }
     {
-        Front::Hunt(Hunting::new())
+        Front {
+            register: Register::new(),
+            is_locked: false,
+            place: 0,
+        }
     }
 
     /// Takes the next bit.
     #[inline(always)]
-    pub fn feed(self, bit: bool) -> FrontStep
-        ensures shows { (bits : List Bool) → FrontStandsFor self bits → Shows result bits (bits ++ bit ∷ []) }
-        ensures hears { (listens : ℕ → Bool) (page : Option HeardPage) (bits : List Bool) → HasUnderWay listens self page bits
-            → Hears listens page result bits (bits ++ bit ∷ []) }
+    pub fn feed(&mut self, bit: bool) -> FrontEvent
+        ensures shows { (bits : List Bool) → FrontStandsFor self.old bits → Shows self.new result bits (bits ++ bit ∷ []) }
+        ensures hears { (listens : ℕ → Bool) (page : Option HeardPage) (bits : List Bool) → HasUnderWay listens self.old page bits
+            → Hears listens page self.new result bits (bits ++ bit ∷ []) }
         ensures place { HasFrontPlace result }
     {
-        match self {
-            Front::Hunt(hunting) => match hunting.feed(bit) {
-                HuntStep::Still(hunting) => FrontStep::Still(Front::Hunt(hunting)),
-                HuntStep::Found(locked) => FrontStep::Batch(Front::Lock(locked)),
-            },
-            Front::Lock(locked) => match locked.feed(bit) {
-                LockStep::Still(locked) => FrontStep::Still(Front::Lock(locked)),
-                LockStep::Slot(locked, place, word) => {
-                    FrontStep::Slot(Front::Lock(locked), place, word)
-                }
-                LockStep::Batch(locked) => FrontStep::Batch(Front::Lock(locked)),
-                LockStep::Lost(hunting) => FrontStep::Lost(Front::Hunt(hunting)),
-            },
+        self.register.push(bit);
+        if !self.register.is_full() {
+            return FrontEvent::Still;
+        }
+        let word = self.register.word();
+        if !self.is_locked {
+            if !is_sync(word) {
+                return FrontEvent::Still;
+            }
+            self.register.clear();
+            self.is_locked = true;
+            self.place = 0;
+            return FrontEvent::Batch;
+        }
+        self.register.clear();
+        let place = self.place;
+        if place < SLOTS {
+            self.place = place + 1;
+            FrontEvent::Slot(place, word)
+        } else if is_sync(word) {
+            self.place = 0;
+            FrontEvent::Batch
+        } else {
+            self.is_locked = false;
+            FrontEvent::Lost
         }
     }
 }

@@ -7,14 +7,13 @@ ghost use Rattle.page_text.specs.Texts.{text_of};
 ghost use Rattle.receiver.specs.Gathering.{IsFound, IsOurs};
 ghost use Rattle.receiver.specs.Listeners.{is_one_of};
 
-use crate::front::{Front, FrontStep};
+use crate::front::{Front, FrontEvent};
 use crate::gathering::Gathering;
 use crate::ready::Ready;
 use codeword::{Capcode, WordKind, kind};
 use std::alloc::Global;
 use std::collections::BTreeSet;
 use std::marker::Model;
-use std::mem;
 use std::sync::ledger::Ledger;
 use wires::Memory;
 use wires::steps::Steps;
@@ -76,23 +75,14 @@ impl Group {
         ensures steps { (bits : List Bool) → StandsFor self.old bits → steps.new + slots_in bits ≡ steps.old + slots_in (bits ++ bit ∷ []) }
     {
         self.gathering.forget();
-        let front = mem::replace(&mut self.front, Front::new());
-        match front.feed(bit) {
-            FrontStep::Still(front) => {
-                self.front = front;
-                None
-            }
-            FrontStep::Batch(front) => {
-                self.front = front;
-                None
-            }
-            FrontStep::Lost(front) => {
-                self.front = front;
+        match self.front.feed(bit) {
+            FrontEvent::Still => None,
+            FrontEvent::Batch => None,
+            FrontEvent::Lost => {
                 self.gathering.close();
                 None
             }
-            FrontStep::Slot(front, place, word) => {
-                self.front = front;
+            FrontEvent::Slot(place, word) => {
                 steps.tick();
                 let kind = kind(word);
                 let ours = match_any(&self.capcodes, place, kind);

@@ -25,7 +25,7 @@ pub mod ready;
 pub mod receiver;
 mod register;
 
-pub use front::{Front, FrontStep, HuntStep, Hunting, LockStep, Locked};
+pub use front::{Front, FrontEvent, HuntStep, Hunting, LockStep, Locked};
 pub use group::Group;
 pub use ready::Ready;
 pub use receiver::Receiver;

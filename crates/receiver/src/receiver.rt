@@ -6,12 +6,11 @@ ghost use Rattle.page_text.specs.Texts.{text_of};
 ghost use Rattle.receiver.specs.Gathering.{IsOurs};
 ghost use Rattle.receiver.specs.Listeners.{is_one_of};
 
-use crate::front::{Front, FrontStep};
+use crate::front::{Front, FrontEvent};
 use crate::gathering::Gathering;
 use crate::ready::Ready;
 use codeword::{Capcode, WordKind, kind};
 use std::marker::Model;
-use std::mem;
 
 /// A receiver of one capcode, fed bit by bit.
 #[derive(Drop)]
@@ -56,23 +55,14 @@ impl Receiver {
         ensures answer { result ≡ answer_of self.new.ready }
     {
         self.gathering.forget();
-        let front = mem::replace(&mut self.front, Front::new());
-        match front.feed(bit) {
-            FrontStep::Still(front) => {
-                self.front = front;
-                None
-            }
-            FrontStep::Batch(front) => {
-                self.front = front;
-                None
-            }
-            FrontStep::Lost(front) => {
-                self.front = front;
+        match self.front.feed(bit) {
+            FrontEvent::Still => None,
+            FrontEvent::Batch => None,
+            FrontEvent::Lost => {
                 self.gathering.close();
                 None
             }
-            FrontStep::Slot(front, place, word) => {
-                self.front = front;
+            FrontEvent::Slot(place, word) => {
                 let kind = kind(word);
                 let ours = match_own(self.capcode, place, kind);
                 self.gathering.slot(place, kind, ours)

@@ -38,21 +38,21 @@ impl Register {
 
     /// Takes one more bit. Of 33 the first goes.
     #[inline(always)]
-    pub fn push(self, bit: bool) -> Register
-        ensures { result ≡ last_32 (self ++ bit ∷ []) }
+    pub fn push(&mut self, bit: bool)
+        ensures { self.new ≡ last_32 (self.old ++ bit ∷ []) }
     {
-        let bits = (self.bits << 1) | u32::from(bit);
+        self.bits = (self.bits << 1) | u32::from(bit);
         if self.count < WORD_BITS {
-            Register {
-                bits,
-                count: self.count + 1,
-            }
-        } else {
-            Register {
-                bits,
-                count: WORD_BITS,
-            }
+            self.count += 1;
         }
+    }
+
+    /// Forgets all bits.
+    #[inline(always)]
+    pub fn clear(&mut self)
+        ensures { self.new ≡ [] }
+    {
+        self.count = 0;
     }
 
     /// Whether it holds 32 bits.

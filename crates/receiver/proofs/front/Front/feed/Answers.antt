@@ -1,51 +1,44 @@
-use Rattle.receiver.proofs.FrontSteps.{hunt_still, hunt_found, lock_still, lock_slot, lock_batch, lock_lost}
-use Rattle.receiver.proofs.Heard.{shows, hears}
+use Rattle.std.proofs.Common.{◌≡◌, ◌≤◌, ◌<◌, ℕ, Bool, IsTrue, false, sym, ◌∙◌, ap, arith, rules}
+use Rattle.std.proofs.lemmas.Bool.{both_ways}
+use Rattle.receiver.specs.Stretches.{is_sync}
+use Rattle.receiver.proofs.Feeding.{shows_fed, hears_fed, still_short, still_hunting, hunts_full, found, finds_full, joined_one, slot, batch, lost}
 use Rattle.receiver.proofs.front.Front.feed.Goals as goal
 
-pub returns-in-Still-clause-shows : goal.returns-in-Still-clause-shows
-returns-in-Still-clause-shows c bits here =
-    shows _ _ bits _ (hunt_still c.in-Hunt.hunting c.in-Still.hunting c.args.bit c.in-Still.ensures.step bits) (rw c.in-Hunt.is at here)
+short : (n : ℕ) (b : Bool) → b ≡ false → (32 ≤ n → IsTrue b) → n < 32
+short n b not f = let h : 32 ≤ n → ⊥ = λ l. both_ways b not (f l) in omega arith
 
-pub returns-in-Still-clause-hears : goal.returns-in-Still-clause-hears
-returns-in-Still-clause-hears c listens page bits here =
-    hears _ _ bits _ (hunt_still c.in-Hunt.hunting c.in-Still.hunting c.args.bit c.in-Still.ensures.step bits) listens page (rw c.in-Hunt.is at here)
+pub returns-then-not-is_full-clause-shows : goal.returns-then-not-is_full-clause-shows
+returns-then-not-is_full-clause-shows c = shows_fed _ _ _ _ (still_short _ _ _ _ _ c.push.ensures c.self.invariant.1 (short _ c.is_full.result (search rules) c.is_full.ensures.1)) _ c.self.view_is
 
-pub returns-in-Found-clause-shows : goal.returns-in-Found-clause-shows
-returns-in-Found-clause-shows c bits here =
-    shows _ _ bits _ (hunt_found c.in-Hunt.hunting c.in-Found.locked c.args.bit c.in-Found.ensures.step bits) (rw c.in-Hunt.is at here)
+pub returns-then-not-is_full-clause-hears : goal.returns-then-not-is_full-clause-hears
+returns-then-not-is_full-clause-hears c = hears_fed _ _ _ _ (still_short _ _ _ _ _ c.push.ensures c.self.invariant.1 (short _ c.is_full.result (search rules) c.is_full.ensures.1)) _ c.self.view_is
 
-pub returns-in-Found-clause-hears : goal.returns-in-Found-clause-hears
-returns-in-Found-clause-hears c listens page bits here =
-    hears _ _ bits _ (hunt_found c.in-Hunt.hunting c.in-Found.locked c.args.bit c.in-Found.ensures.step bits) listens page (rw c.in-Hunt.is at here)
+pub returns-then-not-is_sync-clause-shows : goal.returns-then-not-is_sync-clause-shows
+returns-then-not-is_sync-clause-shows c = shows_fed _ _ _ _ (still_hunting _ _ _ _ _ (search rules) (hunts_full _ _ _ c.push.ensures (c.is_full.ensures.0 (search rules)) (sym (c.is_sync.ensures ∙ ap is_sync c.word-word.ensures) ∙ (search rules)))) _ c.self.view_is
 
-pub returns-in-Still-feed-clause-shows : goal.returns-in-Still-feed-clause-shows
-returns-in-Still-feed-clause-shows c bits here =
-    shows _ _ bits _ (lock_still c.in-Lock.locked c.in-Still-feed.locked c.args.bit c.in-Still-feed.ensures.step bits) (rw c.in-Lock.is at here)
+pub returns-then-not-is_sync-clause-hears : goal.returns-then-not-is_sync-clause-hears
+returns-then-not-is_sync-clause-hears c = hears_fed _ _ _ _ (still_hunting _ _ _ _ _ (search rules) (hunts_full _ _ _ c.push.ensures (c.is_full.ensures.0 (search rules)) (sym (c.is_sync.ensures ∙ ap is_sync c.word-word.ensures) ∙ (search rules)))) _ c.self.view_is
 
-pub returns-in-Still-feed-clause-hears : goal.returns-in-Still-feed-clause-hears
-returns-in-Still-feed-clause-hears c listens page bits here =
-    hears _ _ bits _ (lock_still c.in-Lock.locked c.in-Still-feed.locked c.args.bit c.in-Still-feed.ensures.step bits) listens page (rw c.in-Lock.is at here)
+pub returns-then-not-self-clause-shows : goal.returns-then-not-self-clause-shows
+returns-then-not-self-clause-shows c = shows_fed _ _ _ _ (found _ _ _ _ _ (search rules) c.clear.ensures (finds_full _ _ _ c.push.ensures (c.is_full.ensures.0 (search rules)) (sym (c.is_sync.ensures ∙ ap is_sync c.word-word.ensures) ∙ (search rules)))) _ c.self.view_is
 
-pub returns-in-Slot-clause-shows : goal.returns-in-Slot-clause-shows
-returns-in-Slot-clause-shows c bits here =
-    shows _ _ bits _ (lock_slot c.in-Lock.locked c.in-Slot.locked c.in-Slot.place c.in-Slot.word c.args.bit c.in-Slot.ensures.step bits) (rw c.in-Lock.is at here)
+pub returns-then-not-self-clause-hears : goal.returns-then-not-self-clause-hears
+returns-then-not-self-clause-hears c = hears_fed _ _ _ _ (found _ _ _ _ _ (search rules) c.clear.ensures (finds_full _ _ _ c.push.ensures (c.is_full.ensures.0 (search rules)) (sym (c.is_sync.ensures ∙ ap is_sync c.word-word.ensures) ∙ (search rules)))) _ c.self.view_is
 
-pub returns-in-Slot-clause-hears : goal.returns-in-Slot-clause-hears
-returns-in-Slot-clause-hears c listens page bits here =
-    hears _ _ bits _ (lock_slot c.in-Lock.locked c.in-Slot.locked c.in-Slot.place c.in-Slot.word c.args.bit c.in-Slot.ensures.step bits) listens page (rw c.in-Lock.is at here)
+pub returns-then-place-lt-SLOTS-clause-shows : goal.returns-then-place-lt-SLOTS-clause-shows
+returns-then-place-lt-SLOTS-clause-shows c = shows_fed _ _ _ _ (slot _ _ _ _ _ _ _ (search rules) (joined_one _ _ _ (c.self.invariant.1 (search rules)) c.push.ensures) (c.is_full.ensures.0 (search rules)) c.clear-2.ensures c.word-word.ensures c.if-place-lt-SLOTS.true) _ c.self.view_is
 
-pub returns-in-Batch-clause-shows : goal.returns-in-Batch-clause-shows
-returns-in-Batch-clause-shows c bits here =
-    shows _ _ bits _ (lock_batch c.in-Lock.locked c.in-Batch.locked c.args.bit c.in-Batch.ensures.step bits) (rw c.in-Lock.is at here)
+pub returns-then-place-lt-SLOTS-clause-hears : goal.returns-then-place-lt-SLOTS-clause-hears
+returns-then-place-lt-SLOTS-clause-hears c = hears_fed _ _ _ _ (slot _ _ _ _ _ _ _ (search rules) (joined_one _ _ _ (c.self.invariant.1 (search rules)) c.push.ensures) (c.is_full.ensures.0 (search rules)) c.clear-2.ensures c.word-word.ensures c.if-place-lt-SLOTS.true) _ c.self.view_is
 
-pub returns-in-Batch-clause-hears : goal.returns-in-Batch-clause-hears
-returns-in-Batch-clause-hears c listens page bits here =
-    hears _ _ bits _ (lock_batch c.in-Lock.locked c.in-Batch.locked c.args.bit c.in-Batch.ensures.step bits) listens page (rw c.in-Lock.is at here)
+pub returns-then-is_sync-clause-shows : goal.returns-then-is_sync-clause-shows
+returns-then-is_sync-clause-shows c = shows_fed _ _ _ _ (batch _ _ _ _ _ _ (search rules) (joined_one _ _ _ (c.self.invariant.1 (search rules)) c.push.ensures) (c.is_full.ensures.0 (search rules)) c.clear-2.ensures c.if-place-lt-SLOTS.false (sym (c.is_sync-else-place-lt-SLOTS.ensures ∙ ap is_sync c.word-word.ensures) ∙ c.if-is_sync.true)) _ c.self.view_is
 
-pub returns-in-Lost-clause-shows : goal.returns-in-Lost-clause-shows
-returns-in-Lost-clause-shows c bits here =
-    shows _ _ bits _ (lock_lost c.in-Lock.locked c.in-Lost.hunting c.args.bit c.in-Lost.ensures.step bits) (rw c.in-Lock.is at here)
+pub returns-then-is_sync-clause-hears : goal.returns-then-is_sync-clause-hears
+returns-then-is_sync-clause-hears c = hears_fed _ _ _ _ (batch _ _ _ _ _ _ (search rules) (joined_one _ _ _ (c.self.invariant.1 (search rules)) c.push.ensures) (c.is_full.ensures.0 (search rules)) c.clear-2.ensures c.if-place-lt-SLOTS.false (sym (c.is_sync-else-place-lt-SLOTS.ensures ∙ ap is_sync c.word-word.ensures) ∙ c.if-is_sync.true)) _ c.self.view_is
 
-pub returns-in-Lost-clause-hears : goal.returns-in-Lost-clause-hears
-returns-in-Lost-clause-hears c listens page bits here =
-    hears _ _ bits _ (lock_lost c.in-Lock.locked c.in-Lost.hunting c.args.bit c.in-Lost.ensures.step bits) listens page (rw c.in-Lock.is at here)
+pub returns-else-is_sync-clause-shows : goal.returns-else-is_sync-clause-shows
+returns-else-is_sync-clause-shows c = shows_fed _ _ _ _ (lost _ _ _ _ _ _ (search rules) (joined_one _ _ _ (c.self.invariant.1 (search rules)) c.push.ensures) (c.is_full.ensures.0 (search rules)) c.clear-2.ensures c.if-place-lt-SLOTS.false (sym (c.is_sync-else-place-lt-SLOTS.ensures ∙ ap is_sync c.word-word.ensures) ∙ c.if-is_sync.false)) _ c.self.view_is
+
+pub returns-else-is_sync-clause-hears : goal.returns-else-is_sync-clause-hears
+returns-else-is_sync-clause-hears c = hears_fed _ _ _ _ (lost _ _ _ _ _ _ (search rules) (joined_one _ _ _ (c.self.invariant.1 (search rules)) c.push.ensures) (c.is_full.ensures.0 (search rules)) c.clear-2.ensures c.if-place-lt-SLOTS.false (sym (c.is_sync-else-place-lt-SLOTS.ensures ∙ ap is_sync c.word-word.ensures) ∙ c.if-is_sync.false)) _ c.self.view_is

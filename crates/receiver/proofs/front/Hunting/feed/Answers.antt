@@ -8,14 +8,14 @@ use Rattle.receiver.proofs.front.Hunting.feed.Goals.{else-is_full-via-then-is_fu
 pub returns-then-is_sync : goal.returns-then-is_sync
 returns-then-is_sync c = record {
   step = λ bits h.
-      let p : Pushed c.push-register.result c.self.inside.register bits c.args.bit = record { kept-is = c.push-register.ensures; was-is = c.self.view_is ∙ h.last; none = h.none } in
+      let p : Pushed c.push.new.self c.self.inside.register bits c.args.bit = record { kept-is = c.push.ensures; was-is = c.self.view_is ∙ h.last; none = h.none } in
       (hunt_found _ _ _ _ p (c.is_full.ensures.0 c.if-is_full.true) (sym (c.is_sync.ensures ∙ ap is_sync c.word.ensures) ∙ c.if-is_sync.true), rw c.new.ensures holds_nothing);
 }
 
 pub returns-else-is_full : goal.returns-else-is_full
 returns-else-is_full c = record {
   step = λ bits h.
-      let p : Pushed c.push-register.result c.self.inside.register bits c.args.bit = record { kept-is = c.push-register.ensures; was-is = c.self.view_is ∙ h.last; none = h.none } in
+      let p : Pushed c.push.new.self c.self.inside.register bits c.args.bit = record { kept-is = c.push.ensures; was-is = c.self.view_is ∙ h.last; none = h.none } in
       record {
         last = pushed_last _ _ _ _ p;
         none = elim c.else-is_full.branch [
