@@ -7,6 +7,7 @@ pub mod Hunts
 pub mod Listens
 pub mod Locks
 pub mod Pages
+pub mod Pieces
 pub mod Registers
 mod Rows
 pub mod Slots

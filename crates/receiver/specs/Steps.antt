@@ -1,7 +1,8 @@
 -- What one more bit does to a hunt and to a lock.
-use Rattle.std.specs.Prelude.{◌≡◌, ℕ, ◌<◌, ◌^◌, ◌%◌, Bool, List, [], ◌∷◌, ◌++◌, length, Some}
+use Rattle.std.specs.Prelude.{◌≡◌, ℕ, ◌<◌, ◌^◌, ◌%◌, Bool, true, false, List, [], ◌∷◌, ◌++◌, length, Some}
 use Rattle.receiver.specs.Stretches.{after_sync, after_loss, held_words, words_of}
 use Rattle.receiver.specs.Locks.{Hunts, Holds}
+use Rattle.wires.specs.Pieces.{taken_of}
 use Rattle.receiver.specs.declared.front.HuntStep.{HuntStep}
 use Rattle.receiver.specs.declared.front.HuntStep.TheVariants.{Still as HuntStill, Found}
 use Rattle.receiver.specs.declared.front.LockStep.{LockStep}
@@ -11,6 +12,20 @@ use Rattle.receiver.specs.declared.front.LockStep.TheVariants.{Still, Slot, Batc
 abbrev pub HuntGoesOn : HuntStep → List Bool → Type 0
 HuntGoesOn (HuntStill hunting) bits = Hunts hunting bits
 HuntGoesOn (Found locked) bits = (after_sync bits ≡ Some []) × Holds locked []
+
+-- a hunt that keeps these bits takes more, finds nothing, and keeps the last of them
+abbrev pub HuntsOn : List Bool → List Bool → List Bool → Type 0
+HuntsOn kept next more = (bits : List Bool) → Hunts kept bits → Hunts next (bits ++ more)
+
+-- a hunt that keeps these bits finds a sync word with the last of further ones
+abbrev pub Finds : List Bool → List Bool → Type 0
+Finds kept more = (bits : List Bool) → Hunts kept bits → after_sync (bits ++ more) ≡ Some []
+
+-- a hunt takes a piece, up to a sync word or to the end
+pub record HuntsThrough (kept next piece left : List Bool) (found : Bool) : Type 0 where
+  pub whole : piece ≡ taken_of piece left ++ left
+  pub on : found ≡ false → HuntsOn kept next (taken_of piece left) × (left ≡ [])
+  pub finds : found ≡ true → Finds kept (taken_of piece left) × (length left < length piece)
 
 -- one more word is whole: this one
 abbrev pub HasOneMore : ℕ → List Bool → List Bool → Type 0

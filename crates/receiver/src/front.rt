@@ -1,12 +1,14 @@
 //! Hunting for a sync word, and the lock that follows it: docs/profile.md, "lock".
 
 ghost use Rattle.std.specs.Prelude.{◌≡◌, ℕ, [], ◌∷◌, ◌++◌, Bool, List, Option};
+ghost use Rattle.receiver.specs.Steps.{HuntsThrough};
 ghost use Rattle.receiver.specs.Stretches.{is_sync as is_sync_of};
 
 use crate::register::Register;
 use bch31::distance;
 use codeword::SYNC;
 use std::marker::Model;
+use wires::piece::Piece;
 
 /// The most wrong bits of a sync word that is taken for one.
 const SYNC_TOLERANCE: u32 = 2;
@@ -182,7 +184,9 @@ impl Front {
     ghost use Rattle.receiver.specs.Fronts.{FrontStandsFor, HasUnderWay};
     ghost use Rattle.receiver.specs.FrontSteps.{Shows, Hears, HasFrontPlace};
     ghost use Rattle.receiver.specs.Heard.{HeardPage};
-    ghost use Rattle.std.specs.Prelude.{None};
+    ghost use Rattle.receiver.specs.declared.front.FrontEvent.TheVariants.{Still};
+    ghost use Rattle.std.specs.Prelude.{◌<◌, None, length};
+    ghost use Rattle.wires.specs.Pieces.{taken_of};
 
     /// A hunt that was fed no bit.
     #[inline(always)]
@@ -194,6 +198,44 @@ impl Front {
             register: Register::new(),
             is_locked: false,
             place: 0,
+        }
+    }
+
+    /// Takes the first bits of a piece, up to the first that isn't Still, or all.
+    pub fn feed_piece(&mut self, piece: &mut Piece) -> FrontEvent
+        ensures shows { (bits : List Bool) → FrontStandsFor self.old bits → Shows self.new result bits (bits ++ taken_of piece.old piece.new) }
+        ensures hears { (listens : ℕ → Bool) (page : Option HeardPage) (bits : List Bool) → HasUnderWay listens self.old page bits
+            → Hears listens page self.new result bits (bits ++ taken_of piece.old piece.new) }
+        ensures place { HasFrontPlace result }
+        ensures whole { piece.old ≡ taken_of piece.old piece.new ++ piece.new }
+        ensures all { result ≡ Still → piece.new ≡ [] }
+        ensures some { 0 < length piece.old → length piece.new < length piece.old }
+    {
+        if !self.is_locked {
+            if !find_sync(&mut self.register, piece) {
+                return FrontEvent::Still;
+            }
+            self.register.clear();
+            self.is_locked = true;
+            self.place = 0;
+            return FrontEvent::Batch;
+        }
+        self.register.fill(piece);
+        if !self.register.is_full() {
+            return FrontEvent::Still;
+        }
+        let word = self.register.word();
+        self.register.clear();
+        let place = self.place;
+        if place < SLOTS {
+            self.place = place + 1;
+            FrontEvent::Slot(place, word)
+        } else if is_sync(word) {
+            self.place = 0;
+            FrontEvent::Batch
+        } else {
+            self.is_locked = false;
+            FrontEvent::Lost
         }
     }
 
@@ -232,6 +274,21 @@ impl Front {
             FrontEvent::Lost
         }
     }
+}
+
+/// Takes the bits of a piece up to the first with which the register has 32 that are near SYNC, and answers whether there is one. Else it
+/// takes all.
+#[inline(always)]
+fn find_sync(register: &mut Register, piece: &mut Piece) -> bool
+    ensures { HuntsThrough register.old register.new piece.old piece.new result }
+{
+    while let Some(bit) = piece.pop() {
+        register.push(bit);
+        if register.is_full() && is_sync(register.word()) {
+            return true;
+        }
+    }
+    false
 }
 
 /// Whether the word differs from SYNC in at most two bits.

@@ -6,6 +6,7 @@ ghost use Rattle.codeword.specs.Kinds.{IsSmall};
 ghost use Rattle.page_text.specs.Texts.{text_of};
 ghost use Rattle.receiver.specs.Gathering.{IsFound, IsOurs};
 ghost use Rattle.receiver.specs.Listeners.{is_one_of};
+ghost use Rattle.wires.specs.Pieces.{taken_of};
 
 use crate::front::{Front, FrontEvent};
 use crate::gathering::Gathering;
@@ -16,6 +17,7 @@ use std::collections::BTreeSet;
 use std::marker::Model;
 use std::sync::ledger::Ledger;
 use wires::Memory;
+use wires::piece::Piece;
 use wires::steps::Steps;
 
 /// Receivers of several capcodes, fed bit by bit. They have one front end, each slot's word is corrected once for all, and one page is
@@ -76,6 +78,58 @@ impl Group {
     {
         self.gathering.forget();
         match self.front.feed(bit) {
+            FrontEvent::Still => None,
+            FrontEvent::Batch => None,
+            FrontEvent::Lost => {
+                self.gathering.close();
+                None
+            }
+            FrontEvent::Slot(place, word) => {
+                steps.tick();
+                let kind = kind(word);
+                let ours = match_any(&self.capcodes, place, kind);
+                self.gathering.slot(place, kind, ours)
+            }
+        }
+    }
+
+    /// Takes the first bits of a piece: up to a bit that completes a page, or all. Answers the page, and None exactly where none is
+    /// complete. Counts one step for the word of each slot that they complete.
+    pub fn feed_piece<L: Ledger>(&mut self, piece: &mut Piece, steps: &mut Steps<L>) -> Option<Ready>
+        ensures capcodes { self.new.capcodes ≡ self.old.capcodes }
+        ensures stands { (bits : List Bool) → StandsFor self.old bits → StandsFor self.new (bits ++ taken_of piece.old piece.new) }
+        ensures page { (bits : List Bool) → StandsFor self.old bits
+            → heard (is_one_of self.old.capcodes) (bits ++ taken_of piece.old piece.new) ≡ heard (is_one_of self.old.capcodes) bits ++ ready_pages self.new.ready }
+        ensures answer { result ≡ answer_of self.new.ready }
+        ensures whole { piece.old ≡ taken_of piece.old piece.new ++ piece.new }
+        ensures all { result ≡ None → piece.new ≡ [] }
+        ensures some { 0 < length piece.old → length piece.new < length piece.old }
+        ensures steps { (bits : List Bool) → StandsFor self.old bits → steps.new + slots_in bits ≡ steps.old + slots_in (bits ++ taken_of piece.old piece.new) }
+    {
+        loop {
+            if let Some(page) = self.meet(piece, steps) {
+                return Some(page);
+            }
+            if piece.is_empty() {
+                return None;
+            }
+        }
+    }
+
+    /// Takes the first bits of a piece, up to the end of a slot, a sync word or a loss of the lock, or all. Answers the page that they
+    /// complete.
+    fn meet<L: Ledger>(&mut self, piece: &mut Piece, steps: &mut Steps<L>) -> Option<Ready>
+        ensures capcodes { self.new.capcodes ≡ self.old.capcodes }
+        ensures stands { (bits : List Bool) → StandsFor self.old bits → StandsFor self.new (bits ++ taken_of piece.old piece.new) }
+        ensures page { (bits : List Bool) → StandsFor self.old bits
+            → heard (is_one_of self.old.capcodes) (bits ++ taken_of piece.old piece.new) ≡ heard (is_one_of self.old.capcodes) bits ++ ready_pages self.new.ready }
+        ensures answer { result ≡ answer_of self.new.ready }
+        ensures whole { piece.old ≡ taken_of piece.old piece.new ++ piece.new }
+        ensures some { 0 < length piece.old → length piece.new < length piece.old }
+        ensures steps { (bits : List Bool) → StandsFor self.old bits → steps.new + slots_in bits ≡ steps.old + slots_in (bits ++ taken_of piece.old piece.new) }
+    {
+        self.gathering.forget();
+        match self.front.feed_piece(piece) {
             FrontEvent::Still => None,
             FrontEvent::Batch => None,
             FrontEvent::Lost => {

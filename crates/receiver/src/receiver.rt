@@ -5,12 +5,14 @@ ghost use Rattle.codeword.specs.Kinds.{IsSmall};
 ghost use Rattle.page_text.specs.Texts.{text_of};
 ghost use Rattle.receiver.specs.Gathering.{IsOurs};
 ghost use Rattle.receiver.specs.Listeners.{is_one_of};
+ghost use Rattle.wires.specs.Pieces.{taken_of};
 
 use crate::front::{Front, FrontEvent};
 use crate::gathering::Gathering;
 use crate::ready::Ready;
 use codeword::{Capcode, WordKind, kind};
 use std::marker::Model;
+use wires::piece::Piece;
 
 /// A receiver of one capcode, fed bit by bit.
 #[derive(Drop)]
@@ -56,6 +58,55 @@ impl Receiver {
     {
         self.gathering.forget();
         match self.front.feed(bit) {
+            FrontEvent::Still => None,
+            FrontEvent::Batch => None,
+            FrontEvent::Lost => {
+                self.gathering.close();
+                None
+            }
+            FrontEvent::Slot(place, word) => {
+                let kind = kind(word);
+                let ours = match_own(self.capcode, place, kind);
+                self.gathering.slot(place, kind, ours)
+            }
+        }
+    }
+
+    /// Takes the first bits of a piece: up to a bit that completes a page, or all. Answers the page, and None exactly where none is
+    /// complete.
+    pub fn feed_piece(&mut self, piece: &mut Piece) -> Option<Ready>
+        ensures capcodes { self.new.capcodes ≡ self.old.capcodes }
+        ensures stands { (bits : List Bool) → StandsFor self.old bits → StandsFor self.new (bits ++ taken_of piece.old piece.new) }
+        ensures page { (bits : List Bool) → StandsFor self.old bits
+            → heard (is_one_of self.old.capcodes) (bits ++ taken_of piece.old piece.new) ≡ heard (is_one_of self.old.capcodes) bits ++ ready_pages self.new.ready }
+        ensures answer { result ≡ answer_of self.new.ready }
+        ensures whole { piece.old ≡ taken_of piece.old piece.new ++ piece.new }
+        ensures all { result ≡ None → piece.new ≡ [] }
+        ensures some { 0 < length piece.old → length piece.new < length piece.old }
+    {
+        loop {
+            if let Some(page) = self.meet(piece) {
+                return Some(page);
+            }
+            if piece.is_empty() {
+                return None;
+            }
+        }
+    }
+
+    /// Takes the first bits of a piece, up to the end of a slot, a sync word or a loss of the lock, or all. Answers the page that they
+    /// complete.
+    fn meet(&mut self, piece: &mut Piece) -> Option<Ready>
+        ensures capcodes { self.new.capcodes ≡ self.old.capcodes }
+        ensures stands { (bits : List Bool) → StandsFor self.old bits → StandsFor self.new (bits ++ taken_of piece.old piece.new) }
+        ensures page { (bits : List Bool) → StandsFor self.old bits
+            → heard (is_one_of self.old.capcodes) (bits ++ taken_of piece.old piece.new) ≡ heard (is_one_of self.old.capcodes) bits ++ ready_pages self.new.ready }
+        ensures answer { result ≡ answer_of self.new.ready }
+        ensures whole { piece.old ≡ taken_of piece.old piece.new ++ piece.new }
+        ensures some { 0 < length piece.old → length piece.new < length piece.old }
+    {
+        self.gathering.forget();
+        match self.front.feed_piece(piece) {
             FrontEvent::Still => None,
             FrontEvent::Batch => None,
             FrontEvent::Lost => {

@@ -1,10 +1,12 @@
 //! The last bits that came.
 
-ghost use Rattle.std.specs.Prelude.{◌≡◌, ◌↔◌, ◌≤◌, ◌++◌, [], ◌∷◌, IsTrue, length};
+ghost use Rattle.std.specs.Prelude.{◌≡◌, ◌↔◌, ◌≤◌, ◌<◌, ◌++◌, [], ◌∷◌, IsTrue, length};
 ghost use Rattle.bits.specs.Bits.{number};
 ghost use Rattle.receiver.specs.Registers.{last_32};
+ghost use Rattle.wires.specs.Pieces.{taken_of};
 
 use std::marker::Model;
+use wires::piece::Piece;
 
 /// The bits of a word.
 const WORD_BITS: u32 = 32;
@@ -45,6 +47,21 @@ impl Register {
         if self.count < WORD_BITS {
             self.count += 1;
         }
+    }
+
+    /// Takes the first bits of a piece: as many as it has room for, or all.
+    #[inline(always)]
+    pub fn fill(&mut self, piece: &mut Piece)
+        ensures joined { self.new ≡ self.old ++ taken_of piece.old piece.new }
+        ensures whole { piece.old ≡ taken_of piece.old piece.new ++ piece.new }
+        ensures few { length self.new ≤ 32 }
+        ensures end { length self.new < 32 → piece.new ≡ [] }
+    {
+        let room = WORD_BITS - self.count;
+        let count = room.min(piece.len());
+        let first = piece.take(count);
+        self.bits = (((u64::from(self.bits) << count) | first) % (1 << WORD_BITS)) as u32;
+        self.count += count;
     }
 
     /// Forgets all bits.

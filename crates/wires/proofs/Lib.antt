@@ -4,6 +4,7 @@ pub mod Left
 pub mod Opened
 pub mod Calls
 pub mod Exactly
+pub mod Pieces
 pub mod Stacked
 pub mod Ahead
 pub mod FakeShelf

@@ -5,6 +5,7 @@ pub mod Left
 pub mod Ahead
 pub mod Line
 pub mod Files
+pub mod Pieces
 pub mod Silent
 pub mod Calls
 pub mod Fakes

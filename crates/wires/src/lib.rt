@@ -20,6 +20,7 @@
 //! | `byte_bits` | `ByteBits` and `ShelfBits`, the bits of a source's bytes and of a file's |
 //! | `sink` | `Sink` and `BitSink`, which bytes and words are written to, and `WordBytes`, words over a sink of bytes |
 //! | `wire` | `Wire`, connections one after another |
+//! | `piece` | `Piece`, up to 32 bits that are handed on together |
 //! | `shelf` | `Shelf`, files under names |
 //! | `fakes` | `MemorySource` and `MemorySink`, which fail at the calls that they are told to |
 //! | `fake_shelf` | `MemoryShelf`, a shelf in memory |
@@ -45,6 +46,7 @@ pub mod fakes;
 #[cfg(test)]
 mod file_tests;
 pub mod nothing;
+pub mod piece;
 pub mod shelf;
 pub mod sink;
 pub mod source;

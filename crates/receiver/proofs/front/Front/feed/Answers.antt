@@ -1,11 +1,7 @@
-use Rattle.std.proofs.Common.{◌≡◌, ◌≤◌, ◌<◌, ℕ, Bool, IsTrue, false, sym, ◌∙◌, ap, arith, rules}
-use Rattle.std.proofs.lemmas.Bool.{both_ways}
+use Rattle.std.proofs.Common.{sym, ◌∙◌, ap, rules}
 use Rattle.receiver.specs.Stretches.{is_sync}
-use Rattle.receiver.proofs.Feeding.{shows_fed, hears_fed, still_short, still_hunting, hunts_full, found, finds_full, joined_one, slot, batch, lost}
+use Rattle.receiver.proofs.Feeding.{shows_fed, hears_fed, short, still_short, still_hunting, hunts_full, found, finds_full, joined_one, slot, batch, lost}
 use Rattle.receiver.proofs.front.Front.feed.Goals as goal
-
-short : (n : ℕ) (b : Bool) → b ≡ false → (32 ≤ n → IsTrue b) → n < 32
-short n b not f = let h : 32 ≤ n → ⊥ = λ l. both_ways b not (f l) in omega arith
 
 pub returns-then-not-is_full-clause-shows : goal.returns-then-not-is_full-clause-shows
 returns-then-not-is_full-clause-shows c = shows_fed _ _ _ _ (still_short _ _ _ _ _ c.push.ensures c.self.invariant.1 (short _ c.is_full.result (search rules) c.is_full.ensures.1)) _ c.self.view_is
