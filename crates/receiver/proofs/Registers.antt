@@ -34,17 +34,23 @@ push_whole count r v b view is low high e =
     ∙ push_full r b ∙ ap (λ (xs : List Bool). drop 1 (xs ++ b ∷ [])) (ap (λ (k : ℕ). bits_of k r) (sym full) ∙ is)
     ∙ ap (λ (k : ℕ). drop k (view ++ b ∷ [])) (sym z)
 
+-- `(r << n) | first` of 64 bits
+pub shifted_in : (r n first : ℕ) → r < 2 ^ 32 → n ≤ 32 → first < 2 ^ n → bit_or (r * 2 ^ n % 18446744073709551616) first ≡ r * 2 ^ n + first
+shifted_in r n first small below lt =
+    let p : r * 2 ^ n < 2 ^ 32 * 2 ^ n = mul-lt-mul_of_pos_right small (pow_pos n) in
+    let two : 0 < 2 = omega arith in
+    let o : 2 ^ n ≤ 2 ^ 32 = pow-le-pow_right two below in
+    let q : 2 ^ 32 * 2 ^ n ≤ 2 ^ 32 * 2 ^ 32 = mul-le-mul_left (2 ^ 32) o in
+    let m : r * 2 ^ n % 18446744073709551616 ≡ r * 2 ^ n = mod-eq_of_lt (omega arith) in
+    ap (λ (x : ℕ). bit_or x first) m ∙ or_shifted r n first lt
+
 -- more bits behind those of a register: the new bits, by their number
 pub filled : (count r n first : ℕ) (view taken : List Bool) → bits_of count r ≡ view → bits_of n first ≡ taken → first < 2 ^ n → r < 2 ^ 32 → count + n ≤ 32
     → bits_of (count + n) (bit_or (r * 2 ^ n % 18446744073709551616) first % 4294967296) ≡ view ++ taken
 filled count r n first view taken e f lt small few =
     let p : r * 2 ^ n < 2 ^ 32 * 2 ^ n = mul-lt-mul_of_pos_right small (pow_pos n) in
     let below : n ≤ 32 = omega arith in
-    let two : 0 < 2 = omega arith in
-    let o : 2 ^ n ≤ 2 ^ 32 = pow-le-pow_right two below in
-    let q : 2 ^ 32 * 2 ^ n ≤ 2 ^ 32 * 2 ^ 32 = mul-le-mul_left (2 ^ 32) o in
-    let m : r * 2 ^ n % 18446744073709551616 ≡ r * 2 ^ n = mod-eq_of_lt (omega arith) in
-    let g : bit_or (r * 2 ^ n % 18446744073709551616) first ≡ r * 2 ^ n + first = ap (λ (x : ℕ). bit_or x first) m ∙ or_shifted r n first lt in
+    let g = shifted_in r n first small below lt in
     let s : (count + n) + (32 - (count + n)) ≡ 32 = omega arith in
     let w : bits_of (count + n) ((r * 2 ^ n + first) % 4294967296) ≡ bits_of (count + n) (r * 2 ^ n + first) =
     subst (λ (x : ℕ). bits_of (count + n) ((r * 2 ^ n + first) % 2 ^ x) ≡ bits_of (count + n) (r * 2 ^ n + first)) s (bits_of-mod (count + n) (32 - (count + n)) (r * 2 ^ n + first)) in

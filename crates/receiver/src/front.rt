@@ -1,6 +1,6 @@
 //! Hunting for a sync word, and the lock that follows it: docs/profile.md, "lock".
 
-ghost use Rattle.std.specs.Prelude.{◌≡◌, ℕ, [], ◌∷◌, ◌++◌, Bool, List, Option};
+ghost use Rattle.std.specs.Prelude.{◌≡◌, ◌%◌, length, ℕ, [], ◌∷◌, ◌++◌, Bool, List, Option};
 ghost use Rattle.receiver.specs.Steps.{HuntsThrough};
 ghost use Rattle.receiver.specs.Stretches.{is_sync as is_sync_of};
 
@@ -282,6 +282,9 @@ impl Front {
 fn find_sync(register: &mut Register, piece: &mut Piece) -> bool
     ensures { HuntsThrough register.old register.new piece.old piece.new result }
 {
+    if register.room() == 0 {
+        return scan(register, piece);
+    }
     while let Some(bit) = piece.pop() {
         register.push(bit);
         if register.is_full() && is_sync(register.word()) {
@@ -289,6 +292,33 @@ fn find_sync(register: &mut Register, piece: &mut Piece) -> bool
         }
     }
     false
+}
+
+/// The same where the register is full: it looks at each word of the register and the piece together.
+#[inline(always)]
+fn scan(register: &mut Register, piece: &mut Piece) -> bool
+    requires { length register.old ≡ 32 }
+    ensures { HuntsThrough register.old register.new piece.old piece.new result }
+{
+    let count = piece.len();
+    let window = (u64::from(register.word()) << count) | piece.number();
+    for k in 0..count {
+        if is_sync(low_word(window >> (count - 1 - k))) {
+            piece.skip(k + 1);
+            return true;
+        }
+    }
+    register.hold(low_word(window));
+    piece.skip(count);
+    false
+}
+
+/// The lowest 32 bits.
+#[inline(always)]
+fn low_word(window: u64) -> u32
+    ensures { result ≡ window % 4294967296 }
+{
+    (window % (1 << 32)) as u32
 }
 
 /// Whether the word differs from SYNC in at most two bits.

@@ -1,7 +1,7 @@
 //! The last bits that came.
 
-ghost use Rattle.std.specs.Prelude.{◌≡◌, ◌↔◌, ◌≤◌, ◌<◌, ◌++◌, [], ◌∷◌, IsTrue, length};
-ghost use Rattle.bits.specs.Bits.{number};
+ghost use Rattle.std.specs.Prelude.{◌≡◌, ◌+◌, ◌↔◌, ◌≤◌, ◌<◌, ◌++◌, [], ◌∷◌, IsTrue, length};
+ghost use Rattle.bits.specs.Bits.{number, word_bits};
 ghost use Rattle.receiver.specs.Registers.{last_32};
 ghost use Rattle.wires.specs.Pieces.{taken_of};
 
@@ -64,12 +64,29 @@ impl Register {
         self.count += count;
     }
 
+    /// Holds the bits of a word.
+    #[inline(always)]
+    pub fn hold(&mut self, word: u32)
+        ensures { self.new ≡ word_bits word }
+    {
+        self.bits = word;
+        self.count = WORD_BITS;
+    }
+
     /// Forgets all bits.
     #[inline(always)]
     pub fn clear(&mut self)
         ensures { self.new ≡ [] }
     {
         self.count = 0;
+    }
+
+    /// How many bits it has room for.
+    #[inline(always)]
+    pub fn room(&self) -> u32
+        ensures { result + length self.now ≡ 32 }
+    {
+        WORD_BITS - self.count
     }
 
     /// Whether it holds 32 bits.

@@ -53,3 +53,10 @@ pub taken_twice : {A : Type 0} (old between new : List A) → old ≡ taken_of o
 taken_twice {A} old between new e f =
     taken_is old (taken_of old between ++ taken_of between new) new
     (e ∙ ap (λ (xs : List A). taken_of old between ++ xs) f ∙ sym (append_assoc (taken_of old between) (taken_of between new) new))
+
+pub within : (n count bits : ℕ) (view : List Bool) → bits_of count bits ≡ view → n ≤ length view → n ≤ count
+within n count bits view e h = let l = ap length e in let m = length-bits_of count bits in omega arith
+
+-- the bits above the k lowest don't count
+pub low_bits : (k w : ℕ) → bits_of k (w % 2 ^ k) ≡ bits_of k w
+low_bits k w = let m : k + 0 ≡ k = omega arith in subst (λ (j : ℕ). bits_of k (w % 2 ^ j) ≡ bits_of k w) m (bits_of-mod k 0 w)

@@ -62,6 +62,24 @@ impl Piece {
         Some((self.bits >> self.count) % 2 == 1)
     }
 
+    /// The number that the bits make.
+    #[inline(always)]
+    pub fn number(&self) -> u64
+        ensures bits { bits_of (length self.now) result ≡ self.now }
+        ensures small { result < 2 ^ length self.now }
+    {
+        u64::from(self.bits) % (1u64 << self.count)
+    }
+
+    /// Passes over the first n bits.
+    #[inline(always)]
+    pub fn skip(&mut self, n: u32)
+        requires { n ≤ length self.old }
+        ensures { self.new ≡ drop n self.old }
+    {
+        self.count -= n;
+    }
+
     /// Takes the first n bits, as a number.
     #[inline(always)]
     pub fn take(&mut self, n: u32) -> u64

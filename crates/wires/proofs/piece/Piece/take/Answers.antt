@@ -2,11 +2,8 @@ use Rattle.std.proofs.Common.{◌≡◌, ℕ, ◌≤◌, ◌-◌, ◌/◌, ◌%�
 use Rattle.std.proofs.lemmas.Nat.{one_shl, pow_pos}
 use Rattle.bits.specs.Bits.{bits_of}
 use Rattle.bits.proofs.Lengths.{length-bits_of}
-use Rattle.wires.proofs.Pieces.{takes_first, takes_last}
+use Rattle.wires.proofs.Pieces.{within, takes_first, takes_last}
 use Rattle.wires.proofs.piece.Piece.take.Goals as goal
-
-within : (n count bits : ℕ) (view : List Bool) → bits_of count bits ≡ view → n ≤ length view → n ≤ count
-within n count bits view e h = let l = ap length e in let m = length-bits_of count bits in omega arith
 
 pub overflow_sub-self : goal.overflow_sub-self
 overflow_sub-self c = within _ _ _ _ c.self.view_is c.requires
