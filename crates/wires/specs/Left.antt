@@ -49,6 +49,23 @@ pub record TakesOne {A E : Type 0} (old new : Left A) (result : Result (Option A
   pub faults : HasCause old.faults new.faults result
   pub lent : new.lent ≡ old.lent
 
+-- the first of what was left came out, and nothing only where nothing was left. After Failed nothing came out
+abbrev pub PopsSome : {A E : Type 0} → List A → List A → Result (List A) E → Type 0
+PopsSome old new (Ok piece) = (old ≡ piece ++ new) × (piece ≡ [] → old ≡ [])
+PopsSome old new (Err _) = new ≡ old
+
+-- a read of some, at most so many, which fails in no steady object
+pub record TakesPiece {A E : Type 0} (most : ℕ) (old new : Left A) (result : Result (List A) E) : Type 0 where
+  pub tells : new.tells ≡ old.tells
+  pub few : IfOk result (λ piece. length piece ≤ most)
+  pub left : IsTrue old.tells → PopsSome old.left new.left result
+  -- no read makes anything be there, and an answer comes only where something is there
+  pub there : IsTrue old.tells → IsTrue new.there → IsTrue old.there
+  pub came : IsTrue old.tells → OnOk result (IsTrue old.there)
+  pub steady : IsTrue old.tells → IsTrue old.steady → IsOk result × IsTrue new.steady
+  pub faults : HasCause old.faults new.faults result
+  pub lent : new.lent ≡ old.lent
+
 -- some reads, none of which failed, took this
 pub record Took {A : Type 0} (old new : Left A) (taken : List A) : Type 0 where
   pub tells : new.tells ≡ old.tells

@@ -1,11 +1,12 @@
 //! Bits out of bytes, each byte's most significant bit first. Both readers read some kilobytes at a time, and hand out
 //! the bits of what was read before they read on.
-ghost use Rattle.bits.specs.Bits.{bytes_bits};
-ghost use Rattle.std.specs.Prelude.{◌≡◌, ◌≤◌, [], ◌∷◌, MatchOption, take};
+ghost use Rattle.bits.specs.Bits.{bytes_bits, word_bits};
+ghost use Rattle.std.specs.Prelude.{◌≡◌, ◌≤◌, ◌<◌, ◌++◌, [], ◌∷◌, MatchOption, length, take};
 ghost use Rattle.wires.specs.Ahead.{Fills};
 ghost use Rattle.wires.specs.Stacked.{bits_left, shelf_bits};
 
 use crate::Failed;
+use crate::piece::Piece;
 use crate::shelf::Shelf;
 use crate::source::{BitSource, Source};
 use std::marker::Model;
@@ -83,6 +84,65 @@ impl Ready {
         self.pending -= 1;
         Some((self.byte >> self.pending) % 2 == 1)
     }
+
+    /// Takes the next 32 bits, where no byte is begun and four are left.
+    #[inline(always)]
+    fn word(&mut self) -> Option<u32>
+        ensures { MatchOption result (self.new ≡ self.old) (λ word. self.old ≡ word_bits word ++ self.new) }
+    {
+        if self.pending != 0 {
+            return None;
+        }
+        if self.end - self.at < 4 {
+            return None;
+        }
+        let first = u32::from(self.bytes[self.at]);
+        let second = u32::from(self.bytes[self.at + 1]);
+        let third = u32::from(self.bytes[self.at + 2]);
+        let fourth = u32::from(self.bytes[self.at + 3]);
+        self.at += 4;
+        Some(((first * 256 + second) * 256 + third) * 256 + fourth)
+    }
+
+    /// Takes the next bits of one byte, at most so many.
+    fn few(&mut self, most: u32) -> Piece
+        requires { 0 < most }
+        ensures pops { self.old ≡ result ++ self.new }
+        ensures few { length result ≤ most }
+        ensures end { result ≡ [] → self.old ≡ [] }
+    {
+        if self.pending == 0 {
+            if self.at == self.end {
+                return Piece::of(0, 0);
+            }
+            let byte = self.bytes[self.at];
+            self.at += 1;
+            self.byte = byte;
+            let count = most.min(8);
+            self.pending = (8 - count) as u8;
+            return Piece::of(u32::from(byte) >> (8 - count), count);
+        }
+        let count = most.min(u32::from(self.pending));
+        self.pending -= count as u8;
+        Piece::of(u32::from(self.byte) >> self.pending, count)
+    }
+
+    /// Takes the next bits, at most so many.
+    #[inline(always)]
+    fn piece(&mut self, most: u32) -> Piece
+        requires { 0 < most }
+        ensures pops { self.old ≡ result ++ self.new }
+        ensures few { length result ≤ most }
+        ensures end { result ≡ [] → self.old ≡ [] }
+    {
+        if most < 32 {
+            return self.few(most);
+        }
+        if let Some(word) = self.word() {
+            return Piece::of(word, 32);
+        }
+        self.few(most)
+    }
 }
 
 /// The bits of a source's bytes. Its faults are the source's.
@@ -125,6 +185,15 @@ impl<S: Source> BitSource for ByteBits<S> {
         }
         self.fill()?;
         Ok(self.ready.pop())
+    }
+
+    fn piece(&mut self, most: u32) -> Result<Piece, Failed> {
+        let piece = self.ready.piece(most);
+        if !piece.is_empty() {
+            return Ok(piece);
+        }
+        self.fill()?;
+        Ok(self.ready.piece(most))
     }
 }
 
@@ -179,5 +248,14 @@ impl<'a, F: Shelf> BitSource for ShelfBits<'a, F> {
         }
         self.fill()?;
         Ok(self.ready.pop())
+    }
+
+    fn piece(&mut self, most: u32) -> Result<Piece, Failed> {
+        let piece = self.ready.piece(most);
+        if !piece.is_empty() {
+            return Ok(piece);
+        }
+        self.fill()?;
+        Ok(self.ready.piece(most))
     }
 }

@@ -1,10 +1,11 @@
 //! Where bytes and bits are read from, and bits with noise.
 ghost use Rattle.std.specs.Prelude.{◌≡◌, ℕ, ◌<◌, Bool, None, length, IfOk, IsSome, IsTrue};
 ghost use Rattle.wires.specs.Ahead.{Peeks};
-ghost use Rattle.wires.specs.Left.{Left, Takes, TakesOne};
+ghost use Rattle.wires.specs.Left.{Left, Takes, TakesOne, TakesPiece};
 ghost use Rattle.wires.specs.Stacked.{noisy_over};
 
 use crate::Failed;
+use crate::piece::Piece;
 
 /// Bytes can be read from it.
 pub trait Source {
@@ -27,6 +28,18 @@ pub trait BitSource {
     /// taken.
     fn bit(&mut self) -> Result<Option<bool>, Failed>
         ensures { TakesOne (state self.old) (state self.new) result };
+
+    /// Takes some of the bits left, the first of them, at most so many and at most 32. It answers no bit exactly where
+    /// none are left. After `Failed` nothing was taken.
+    fn piece(&mut self, most: u32) -> Result<Piece, Failed>
+        requires { 0 < most }
+        ensures { TakesPiece most (state self.old) (state self.new) result }
+    {
+        match self.bit()? {
+            Some(bit) => Ok(Piece::of(u32::from(bit), 1)),
+            None => Ok(Piece::of(0, 0)),
+        }
+    }
 }
 
 /// Bits with noise: each bit xor the noise's bit, which is 0 after the noise's end. It ends where the bits end, and its

@@ -1,7 +1,6 @@
-use Rattle.std.proofs.Common.{◌≡◌, ℕ, ◌≤◌, ◌-◌, ◌/◌, ◌%◌, ◌^◌, Bool, List, length, take, drop, arith, ◌∙◌, ap}
+use Rattle.std.proofs.Common.{ℕ, ◌-◌, ◌/◌, ◌%◌, ◌^◌, take, drop, arith, ◌∙◌, ap}
 use Rattle.std.proofs.lemmas.Nat.{one_shl, pow_pos}
 use Rattle.bits.specs.Bits.{bits_of}
-use Rattle.bits.proofs.Lengths.{length-bits_of}
 use Rattle.wires.proofs.Pieces.{within, takes_first, takes_last}
 use Rattle.wires.proofs.piece.Piece.take.Goals as goal
 
