@@ -71,7 +71,7 @@ pub slot : (locked : Bool) (place : ℕ) (kept next more empty : List Bool) (wor
 slot true place kept next more empty word is j full e w p =
     lock_slot (lock_of place kept) (lock_of (place + 1) empty) place word more
     (λ (bits : List Bool) (h : Holds (lock_of place kept) bits).
-        rw (e, w) (takes_slot (lock_of place kept) bits next more record { holds = h; fits = j.fits; kept-is = j.next-is } full p))
+    rw (e, w) (takes_slot (lock_of place kept) bits next more record { holds = h; fits = j.fits; kept-is = j.next-is } full p))
 slot false place kept next more empty word is j full e w p = cc
 
 pub batch : (locked : Bool) (place : ℕ) (kept next more empty : List Bool) → locked ≡ true → Joined kept next more → 32 ≤ length next → empty ≡ []
@@ -79,7 +79,7 @@ pub batch : (locked : Bool) (place : ℕ) (kept next more empty : List Bool) →
 batch true place kept next more empty is j full e p good =
     lock_batch (lock_of place kept) (lock_of 0 empty) more
     (λ (bits : List Bool) (h : Holds (lock_of place kept) bits).
-        rw e (takes_batch (lock_of place kept) bits next more record { holds = h; fits = j.fits; kept-is = j.next-is } full p good))
+    rw e (takes_batch (lock_of place kept) bits next more record { holds = h; fits = j.fits; kept-is = j.next-is } full p good))
 batch false place kept next more empty is j full e p good = cc
 
 pub lost : (locked : Bool) (place : ℕ) (kept next more empty : List Bool) → locked ≡ true → Joined kept next more → 32 ≤ length next → empty ≡ []
@@ -87,8 +87,8 @@ pub lost : (locked : Bool) (place : ℕ) (kept next more empty : List Bool) → 
 lost true place kept next more empty is j full e p bad =
     lock_lost (lock_of place kept) empty more
     (λ (bits : List Bool) (h : Holds (lock_of place kept) bits).
-        let all = loses (lock_of place kept) bits next more record { holds = h; fits = j.fits; kept-is = j.next-is } full p bad in
-        (subst (λ (xs : List Bool). Hunts xs []) (sym e) hunts_nothing, all.0, all.1))
+    let all = loses (lock_of place kept) bits next more record { holds = h; fits = j.fits; kept-is = j.next-is } full p bad in
+    (subst (λ (xs : List Bool). Hunts xs []) (sym e) hunts_nothing, all.0, all.1))
 lost false place kept next more empty is j full e p bad = cc
 
 -- ---- one bit
@@ -161,10 +161,10 @@ hunted_finds kept next piece left after rest b h e finds =
       whole = subst (λ (xs : List Bool). piece ≡ xs ++ rest) (sym t) whole;
       on = λ (f : true ≡ false). cc;
       finds = λ (f : true ≡ true). (
-          subst (λ (xs : List Bool). Finds kept xs) (sym t)
-          (λ (bits : List Bool) (hunts : Hunts kept bits).
-              ap after_sync (sym (append_assoc bits h.taken (b ∷ []))) ∙ finds (bits ++ h.taken) (h.on bits hunts)),
-          omega arith,
+        subst (λ (xs : List Bool). Finds kept xs) (sym t)
+            (λ (bits : List Bool) (hunts : Hunts kept bits).
+            ap after_sync (sym (append_assoc bits h.taken (b ∷ []))) ∙ finds (bits ++ h.taken) (h.on bits hunts)),
+        omega arith,
       );
     }
 

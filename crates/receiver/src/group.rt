@@ -95,7 +95,11 @@ impl Group {
 
     /// Takes the first bits of a piece: up to a bit that completes a page, or all. Answers the page, and None exactly where none is
     /// complete. Counts one step for the word of each slot that they complete.
-    pub fn feed_piece<L: Ledger>(&mut self, piece: &mut Piece, steps: &mut Steps<L>) -> Option<Ready>
+    pub fn feed_piece<L: Ledger>(
+        &mut self,
+        piece: &mut Piece,
+        steps: &mut Steps<L>,
+    ) -> Option<Ready>
         ensures capcodes { self.new.capcodes ≡ self.old.capcodes }
         ensures stands { (bits : List Bool) → StandsFor self.old bits → StandsFor self.new (bits ++ taken_of piece.old piece.new) }
         ensures page { (bits : List Bool) → StandsFor self.old bits

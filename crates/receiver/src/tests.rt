@@ -6,6 +6,7 @@ use codeword::Capcode;
 use std::alloc::{AllocError, Global};
 use std::process::Abort;
 use std::test::Fail;
+use wires::piece::Piece;
 use wires::steps::{Steps, Work};
 
 const SYNC: u32 = 0x7CD2_15D8;
@@ -143,6 +144,36 @@ fn hear_alone(
     Ok(heard)
 }
 
+/// What a receiver answers to these bits, of which so many make a piece.
+fn hear_in_pieces(
+    alloc: Global,
+    capcode: Capcode,
+    size: usize,
+    bits: &[bool],
+) -> Result<Vec<HeardPage>, AllocError> {
+    let mut receiver = Receiver::new(capcode);
+    let mut heard = Vec::new(alloc);
+    let mut text = [0; 700];
+    let mut at = 0;
+    for chunk in bits.chunks(size) {
+        let mut word = 0u32;
+        for bit in chunk {
+            word = (word << 1) | u32::from(*bit);
+        }
+        at += chunk.len();
+        let mut piece = Piece::of(word, chunk.len() as u32);
+        while let Some(ready) = receiver.feed_piece(&mut piece) {
+            let length = receiver.text(&mut text);
+            heard.push(HeardPage {
+                end: at - piece.len() as usize,
+                ready,
+                text: text[..length].to_vec(alloc)?,
+            })?;
+        }
+    }
+    Ok(heard)
+}
+
 /// What a group answers to these bits.
 fn hear_together(
     alloc: Global,
@@ -249,6 +280,9 @@ fn compare(
     for capcode in capcodes {
         let alone = pages(alloc, &[*capcode], bits)?;
         assert_eq!(rt; hear_alone(alloc, *capcode, bits)?, alone);
+        for size in [1usize, 7, 31, 32] {
+            assert_eq!(rt; hear_in_pieces(alloc, *capcode, size, bits)?, alone);
+        }
     }
     Ok(wanted.len())
 }

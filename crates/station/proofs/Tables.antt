@@ -11,8 +11,7 @@ use Rattle.wires.proofs.Written.{Puts-nothing}
 use Rattle.receiver.specs.Heard.{capcode_at}
 use Rattle.receiver.specs.Stretches.{first_stretches, stretches}
 use Rattle.receiver.specs.Slots.{Batch, Entry, Slot, entries}
-use Rattle.receiver.specs.Fronts.{FrontStandsFor}
-use Rattle.receiver.specs.declared.front.Front.{Front}
+use Rattle.receiver.specs.Fronts.{FrontEnd, FrontStandsFor}
 use Rattle.station.specs.Listening.{Prints}
 use Rattle.station.specs.Table.{TableStandsFor, batch_line, batches_in, entry_lines, hex_digits, kind_text, slot_line, table_of}
 
@@ -62,24 +61,24 @@ prints bits bit added n piece o1 o2 r count more is put = record {
 }
 
 -- a bit that adds nothing
-pub prints_nothing : {E : Type 0} (front : Front) (n : ℕ) (bits : List Bool) (bit : Bool) (o : Written ℕ) → TableStandsFor front n bits
+pub prints_nothing : {E : Type 0} (front : FrontEnd) (n : ℕ) (bits : List Bool) (bit : Bool) (o : Written ℕ) → TableStandsFor front n bits
     → entries (bits ++ bit ∷ []) ≡ entries bits ++ [] → Prints {E = E} table_of bits bit o o (Ok (tt {0}))
 prints_nothing {E} front n bits bit o h more = prints bits bit [] n [] o o (Ok (tt {0})) h.batches_are more refl (Puts-nothing {E = E} o (tt {0}))
 
 -- a bit that completes a slot
-pub prints_slot : {T E : Type 0} (front : Front) (n : ℕ) (bits : List Bool) (bit : Bool) (place word : ℕ) (o1 o2 : Written ℕ) (r : Result T E) → TableStandsFor front n bits
+pub prints_slot : {T E : Type 0} (front : FrontEnd) (n : ℕ) (bits : List Bool) (bit : Bool) (place word : ℕ) (o1 o2 : Written ℕ) (r : Result T E) → TableStandsFor front n bits
     → entries (bits ++ bit ∷ []) ≡ entries bits ++ Slot place word ∷ [] → Puts o1 o2 (slot_line place word) r → Prints table_of bits bit o1 o2 r
 prints_slot front n bits bit place word o1 o2 r h more put =
     prints bits bit (Slot place word ∷ []) n (slot_line place word) o1 o2 r h.batches_are more (append-nil (slot_line place word)) put
 
 -- a bit that completes a sync word
-pub prints_batch : {T E : Type 0} (front : Front) (n : ℕ) (bits : List Bool) (bit : Bool) (count : ℕ) (o1 o2 : Written ℕ) (r : Result T E) → TableStandsFor front n bits
+pub prints_batch : {T E : Type 0} (front : FrontEnd) (n : ℕ) (bits : List Bool) (bit : Bool) (count : ℕ) (o1 o2 : Written ℕ) (r : Result T E) → TableStandsFor front n bits
     → count ≡ n + 1 → entries (bits ++ bit ∷ []) ≡ entries bits ++ Batch ∷ [] → Puts o1 o2 (batch_line count) r → Prints table_of bits bit o1 o2 r
 prints_batch front n bits bit count o1 o2 r h next more put =
     prints bits bit (Batch ∷ []) n (batch_line count) o1 o2 r h.batches_are more (append-nil (batch_line (n + 1)) ∙ ap batch_line (sym next)) put
 
 -- what the table stands for then
-pub stands_on : (front after : Front) (n : ℕ) (bits : List Bool) (bit : Bool) (added : List Entry) (count : ℕ) → TableStandsFor front n bits
+pub stands_on : (front after : FrontEnd) (n : ℕ) (bits : List Bool) (bit : Bool) (added : List Entry) (count : ℕ) → TableStandsFor front n bits
     → FrontStandsFor after (bits ++ bit ∷ []) → entries (bits ++ bit ∷ []) ≡ entries bits ++ added → count ≡ n + batches_in added → batches_in added ≤ 1
     → TableStandsFor after count (bits ++ bit ∷ [])
 stands_on front after n bits bit added count h stands more next one = record {

@@ -7,10 +7,9 @@ use Rattle.codeword.specs.declared.words.TheConstants.{IDLE}
 use Rattle.codeword.specs.Functions.{letter_of}
 use Rattle.codeword.specs.Kinds.{kind_of}
 use Rattle.page_text.specs.Line.{decimal_digits, hex_digit}
-use Rattle.receiver.specs.Fronts.{FrontStandsFor}
+use Rattle.receiver.specs.Fronts.{FrontEnd, FrontStandsFor}
 use Rattle.receiver.specs.Heard.{capcode_at}
 use Rattle.receiver.specs.Slots.{Batch, Entry, Slot, entries}
-use Rattle.receiver.specs.declared.front.Front.{Front}
 
 -- the k lowest hexadecimal digits of a number, the highest first, in capitals
 abbrev pub hex_digits : ℕ → ℕ → List ℕ
@@ -53,7 +52,7 @@ batches_in (Batch ∷ rest) = suc (batches_in rest)
 batches_in (Slot place word ∷ rest) = batches_in rest
 
 -- A front end was fed these bits, and so many sync words came.
-pub record TableStandsFor (front : Front) (batches : ℕ) (bits : List Bool) : Type 0 where
+pub record TableStandsFor (front : FrontEnd) (batches : ℕ) (bits : List Bool) : Type 0 where
   pub front_is : FrontStandsFor front bits
   pub batches_are : batches ≡ batches_in (entries bits)
   pub few : batches ≤ length bits

@@ -13,8 +13,7 @@ use bch31::correct;
 use codeword::{IDLE, WordKind, kind};
 use itoa::Buffer;
 use page_text::lines::{digits, hex_digit};
-use receiver::front::{Front, FrontStep};
-use std::mem;
+use receiver::front::{Front, FrontEvent};
 use wires::Failed;
 use wires::sink::Sink;
 
@@ -53,25 +52,14 @@ impl Listener for Table {
     ghost fed = { λ t bits. TableStandsFor t.front t.batches bits };
 
     fn hear<O: Sink>(&mut self, bit: bool, out: &mut O) -> Result<(), Failed> {
-        let front = mem::replace(&mut self.front, Front::new());
-        match front.feed(bit) {
-            FrontStep::Still(front) => {
-                self.front = front;
-                Ok(())
-            }
-            FrontStep::Lost(front) => {
-                self.front = front;
-                Ok(())
-            }
-            FrontStep::Batch(front) => {
-                self.front = front;
+        match self.front.feed(bit) {
+            FrontEvent::Still => Ok(()),
+            FrontEvent::Lost => Ok(()),
+            FrontEvent::Batch => {
                 self.batches = self.batches.saturating_add(1);
                 out.put(&batch_line(self.batches))
             }
-            FrontStep::Slot(front, place, word) => {
-                self.front = front;
-                out.put(&slot_line(place, word))
-            }
+            FrontEvent::Slot(place, word) => out.put(&slot_line(place, word)),
         }
     }
 }

@@ -187,7 +187,7 @@ next_word p byte at end bytes a b c d z le few ea eb ec ed lb lc ld =
     let xs = take end bytes in
     let l = length-take end bytes in
     let step : (i : ℕ) (x : ℕ) → i < end → x ≡ get_or bytes i 0 → drop i xs ≡ x ∷ drop (i + 1) xs = λ i x lt e.
-        drop_more xs i 0 (omega (arith, lt, few, l)) ∙ ap (λ (y : ℕ). y ∷ drop (i + 1) xs) (get_or-take end i bytes 0 lt ∙ sym e) in
+    drop_more xs i 0 (omega (arith, lt, few, l)) ∙ ap (λ (y : ℕ). y ∷ drop (i + 1) xs) (get_or-take end i bytes 0 lt ∙ sym e) in
     let r = bytes_bits (drop (at + 4) xs) in
     let o1 : (at + 1) + 1 ≡ at + 2 = omega arith in
     let o2 : (at + 2) + 1 ≡ at + 3 = omega arith in
