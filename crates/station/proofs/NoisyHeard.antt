@@ -1,8 +1,9 @@
 -- Listening through a noise, bit by bit.
-use Rattle.std.proofs.Common.{◌≡◌, ℕ, ◌≤◌, ◌<◌, ◌^◌, Bool, true, false, List, [], ◌∷◌, ◌++◌, length, length-append, Result, Ok, Err, IsTrue, refl, sym, ◌∙◌, ap, subst, arith, append_assoc, append-nil}
+use Rattle.std.proofs.Common.{◌≡◌, ℕ, ◌+◌, ◌≤◌, ◌<◌, ◌^◌, Bool, true, false, List, [], ◌∷◌, ◌++◌, length, length-append, Result, Ok, Err, IsTrue, refl, sym, ◌∙◌, ap, subst, arith, append_assoc, append-nil}
 use Rattle.std.specs.Prelude.{not}
 use Rattle.std.specs.Bool.{beq}
-use Rattle.bits.specs.Bits.{xor}
+use Rattle.std.specs.Int.{from_bool}
+use Rattle.bits.specs.Bits.{bits_of, xor}
 use Rattle.wires.specs.declared.Failed.{Failed}
 use Rattle.wires.specs.Causes.{Rose}
 use Rattle.wires.specs.Left.{Left, Took}
@@ -103,7 +104,7 @@ through_begins printed bits n o e = record {
 -- one bit more was heard, and what it gives was printed
 abbrev pub through_goes_on : {T F : Type 0} (printed : List Bool → List ℕ) (bits left : List Bool) (before after : Bool) (old now next : Left Bool) (o0 o1 o2 : Written ℕ) (bit flip : Bool) (x : T)
     → (h : ListeningThrough printed bits (bit ∷ left) before old now o0 o1) → NoiseGives {E = Failed} before after now next (Ok flip)
-    → Prints {E = F} printed (noisy_bits h.heard h.noise) (xor bit flip) o1 o2 (Ok x)
+    → Prints {E = F} printed (noisy_bits h.heard h.noise) (xor bit flip ∷ []) o1 o2 (Ok x)
     → ListeningThrough printed bits left after old next o0 o2
 through_goes_on printed bits left before after old now next o0 o1 o2 bit flip x h g p = record {
   heard = h.heard ++ bit ∷ [];
@@ -127,7 +128,7 @@ noise_so_far ended old now bits noise took h t = noise_of_all ended now bits noi
 -- a write failed
 pub through_unprinted : {T F : Type 0} (printed : List Bool → List ℕ) (bits left : List Bool) (before after : Bool) (old now next : Left Bool) (o0 o1 o2 : Written ℕ) (bit flip : Bool) (e : F)
     → (h : ListeningThrough printed bits (bit ∷ left) before old now o0 o1) → NoiseGives {E = Failed} before after now next (Ok flip)
-    → Prints {T = T} printed (noisy_bits h.heard h.noise) (xor bit flip) o1 o2 (Err e)
+    → Prints {T = T} printed (noisy_bits h.heard h.noise) (xor bit flip ∷ []) o1 o2 (Err e)
     → HeardUnprinted printed bits old next o0 o2
 through_unprinted printed bits left before after old now next o0 o1 o2 bit flip e h g p = record {
   heard = h.heard ++ bit ∷ [];
@@ -182,9 +183,9 @@ through_all printed bits left ended old now o0 o none h =
     }
 
 -- as many bits were heard as the bits that are left allow
-pub few_now : (printed : List Bool → List ℕ) (bits left : List Bool) (ended : Bool) (old now : Left Bool) (o0 o : Written ℕ) (h : ListeningThrough printed bits left ended old now o0 o)
-    → length bits < 2 ^ 32 → length (noisy_bits h.heard h.noise) < 2 ^ 32
-few_now printed bits left ended old now o0 o h few = omega (arith, few, length-noisy_bits h.heard h.noise, ap length h.bits_are, length-append h.heard left)
+pub few_now : (printed : List Bool → List ℕ) (bits : List Bool) (bit : Bool) (left : List Bool) (ended : Bool) (old now : Left Bool) (o0 o : Written ℕ) (h : ListeningThrough printed bits (bit ∷ left) ended old now o0 o)
+    → length bits < 2 ^ 32 → length (noisy_bits h.heard h.noise) + 1 < 2 ^ 32
+few_now printed bits bit left ended old now o0 o h few = omega (arith, few, length-noisy_bits h.heard h.noise, ap length h.bits_are, length-append h.heard (bit ∷ left))
 
 -- the xor of the code
 pub flipped : (a b : Bool) → not (beq a b) ≡ xor a b
@@ -193,17 +194,29 @@ flipped true false = refl
 flipped false true = refl
 flipped false false = refl
 
+-- one bit as a piece
+one_bit : (b : Bool) → bits_of 1 (from_bool b) ≡ b ∷ []
+unfolding bits_of
+one_bit true = refl
+one_bit false = refl
+
+piece_flipped : (piece : List Bool) (a b : Bool) → piece ≡ bits_of 1 (from_bool (not (beq a b))) → piece ≡ xor a b ∷ []
+piece_flipped piece a b e = e ∙ one_bit (not (beq a b)) ∙ ap (λ (x : Bool). x ∷ []) (flipped a b)
+
+pub one_long : (piece : List Bool) (a b : Bool) → piece ≡ bits_of 1 (from_bool (not (beq a b))) → length piece ≡ 1
+one_long piece a b e = ap length (piece_flipped piece a b e)
+
 -- the bit that is heard
-pub prints_flipped : {T F : Type 0} (printed : List Bool → List ℕ) (bits : List Bool) (a b : Bool) (o1 o2 : Written ℕ) (r : Result T F)
-    → Prints printed bits (not (beq a b)) o1 o2 r → Prints printed bits (xor a b) o1 o2 r
-prints_flipped printed bits a b o1 o2 r p = subst (λ (x : Bool). Prints printed bits x o1 o2 r) (flipped a b) p
+pub prints_flipped : {T F : Type 0} (printed : List Bool → List ℕ) (bits piece : List Bool) (a b : Bool) (o1 o2 : Written ℕ) (r : Result T F) → piece ≡ bits_of 1 (from_bool (not (beq a b)))
+    → Prints printed bits piece o1 o2 r → Prints printed bits (xor a b ∷ []) o1 o2 r
+prints_flipped printed bits piece a b o1 o2 r e p = subst (λ (xs : List Bool). Prints printed bits xs o1 o2 r) (piece_flipped piece a b e) p
 
 -- what was heard then
-pub then_heard : (printed : List Bool → List ℕ) (bits left : List Bool) (before after : Bool) (old now next : Left Bool) (o0 o1 : Written ℕ) (bit flip : Bool)
-    → (h : ListeningThrough printed bits (bit ∷ left) before old now o0 o1) → NoiseGives {E = Failed} before after now next (Ok flip)
-    → noisy_bits h.heard h.noise ++ not (beq bit flip) ∷ [] ≡ noisy_bits (h.heard ++ bit ∷ []) (noise_after before after h.noise flip)
-then_heard printed bits left before after old now next o0 o1 bit flip h g =
-    ap (λ (x : Bool). noisy_bits h.heard h.noise ++ x ∷ []) (flipped bit flip) ∙ sym (noisy-after before after now next h.heard h.noise bit flip h.so_far g)
+pub then_heard : (printed : List Bool → List ℕ) (bits left : List Bool) (before after : Bool) (old now next : Left Bool) (o0 o1 : Written ℕ) (bit flip : Bool) (piece : List Bool)
+    → (h : ListeningThrough printed bits (bit ∷ left) before old now o0 o1) → NoiseGives {E = Failed} before after now next (Ok flip) → piece ≡ bits_of 1 (from_bool (not (beq bit flip)))
+    → noisy_bits h.heard h.noise ++ piece ≡ noisy_bits (h.heard ++ bit ∷ []) (noise_after before after h.noise flip)
+then_heard printed bits left before after old now next o0 o1 bit flip piece h g e =
+    ap (λ (xs : List Bool). noisy_bits h.heard h.noise ++ xs) (piece_flipped piece bit flip e) ∙ sym (noisy-after before after now next h.heard h.noise bit flip h.so_far g)
 
 -- the bits that are left, in other words
 abbrev pub with_left : (printed : List Bool → List ℕ) (bits left other : List Bool) (ended : Bool) (old now : Left Bool) (o0 o : Written ℕ) → left ≡ other

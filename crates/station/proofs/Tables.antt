@@ -1,5 +1,5 @@
--- The table, bit by bit.
-use Rattle.std.proofs.Common.{◌≡◌, ℕ, suc, ◌+◌, ◌≤◌, ◌<◌, Bool, List, [], ◌∷◌, ◌++◌, length-append, Result, Ok, refl, sym, ◌∙◌, ap, arith, append_assoc, append-nil}
+-- The table, piece by piece.
+use Rattle.std.proofs.Common.{◌≡◌, ℕ, suc, ◌+◌, ◌≤◌, ◌<◌, Bool, List, [], ◌∷◌, ◌++◌, length, length-append, Result, Ok, refl, sym, ◌∙◌, ap, arith, append_assoc, append-nil}
 use Rattle.std.specs.Prelude.{◌*◌, ◌/◌, codes, Option, Some}
 use Rattle.codeword.specs.declared.functions.Function.{Function}
 use Rattle.codeword.specs.declared.kinds.WordKind.{WordKind}
@@ -47,11 +47,11 @@ pub kind_text-message : (place : ℕ) (kind : Option WordKind) (said : WordKind)
     → kind_text place kind ≡ codes "message " ++ hex_digits 5 group
 kind_text-message place kind said group e f = ap (kind_text place) (e ∙ ap (λ (k : WordKind). Some k) f)
 
--- what a bit adds to the table is printed
-prints : {T E : Type 0} (bits : List Bool) (bit : Bool) (added : List Entry) (n : ℕ) (piece : List ℕ) (o1 o2 : Written ℕ) (r : Result T E)
-    → n ≡ batches_in (entries bits) → entries (bits ++ bit ∷ []) ≡ entries bits ++ added → entry_lines n added ≡ piece → Puts o1 o2 piece r
-    → Prints table_of bits bit o1 o2 r
-prints bits bit added n piece o1 o2 r count more is put = record {
+-- what a piece adds to the table is printed
+prints : {T E : Type 0} (bits next : List Bool) (added : List Entry) (n : ℕ) (piece : List ℕ) (o1 o2 : Written ℕ) (r : Result T E)
+    → n ≡ batches_in (entries bits) → entries (bits ++ next) ≡ entries bits ++ added → entry_lines n added ≡ piece → Puts o1 o2 piece r
+    → Prints table_of bits next o1 o2 r
+prints bits next added n piece o1 o2 r count more is put = record {
   piece = piece;
   more =
       let behind : 0 + batches_in (entries bits) ≡ n = omega (arith, count) in
@@ -60,29 +60,29 @@ prints bits bit added n piece o1 o2 r count more is put = record {
   put = put;
 }
 
--- a bit that adds nothing
-pub prints_nothing : {E : Type 0} (front : FrontEnd) (n : ℕ) (bits : List Bool) (bit : Bool) (o : Written ℕ) → TableStandsFor front n bits
-    → entries (bits ++ bit ∷ []) ≡ entries bits ++ [] → Prints {E = E} table_of bits bit o o (Ok (tt {0}))
-prints_nothing {E} front n bits bit o h more = prints bits bit [] n [] o o (Ok (tt {0})) h.batches_are more refl (Puts-nothing {E = E} o (tt {0}))
+-- a piece that adds nothing
+pub prints_nothing : {E : Type 0} (front : FrontEnd) (n : ℕ) (bits next : List Bool) (o : Written ℕ) → TableStandsFor front n bits
+    → entries (bits ++ next) ≡ entries bits ++ [] → Prints {E = E} table_of bits next o o (Ok (tt {0}))
+prints_nothing {E} front n bits next o h more = prints bits next [] n [] o o (Ok (tt {0})) h.batches_are more refl (Puts-nothing {E = E} o (tt {0}))
 
--- a bit that completes a slot
-pub prints_slot : {T E : Type 0} (front : FrontEnd) (n : ℕ) (bits : List Bool) (bit : Bool) (place word : ℕ) (o1 o2 : Written ℕ) (r : Result T E) → TableStandsFor front n bits
-    → entries (bits ++ bit ∷ []) ≡ entries bits ++ Slot place word ∷ [] → Puts o1 o2 (slot_line place word) r → Prints table_of bits bit o1 o2 r
-prints_slot front n bits bit place word o1 o2 r h more put =
-    prints bits bit (Slot place word ∷ []) n (slot_line place word) o1 o2 r h.batches_are more (append-nil (slot_line place word)) put
+-- a piece that completes a slot
+pub prints_slot : {T E : Type 0} (front : FrontEnd) (n : ℕ) (bits next : List Bool) (place word : ℕ) (o1 o2 : Written ℕ) (r : Result T E) → TableStandsFor front n bits
+    → entries (bits ++ next) ≡ entries bits ++ Slot place word ∷ [] → Puts o1 o2 (slot_line place word) r → Prints table_of bits next o1 o2 r
+prints_slot front n bits next place word o1 o2 r h more put =
+    prints bits next (Slot place word ∷ []) n (slot_line place word) o1 o2 r h.batches_are more (append-nil (slot_line place word)) put
 
--- a bit that completes a sync word
-pub prints_batch : {T E : Type 0} (front : FrontEnd) (n : ℕ) (bits : List Bool) (bit : Bool) (count : ℕ) (o1 o2 : Written ℕ) (r : Result T E) → TableStandsFor front n bits
-    → count ≡ n + 1 → entries (bits ++ bit ∷ []) ≡ entries bits ++ Batch ∷ [] → Puts o1 o2 (batch_line count) r → Prints table_of bits bit o1 o2 r
-prints_batch front n bits bit count o1 o2 r h next more put =
-    prints bits bit (Batch ∷ []) n (batch_line count) o1 o2 r h.batches_are more (append-nil (batch_line (n + 1)) ∙ ap batch_line (sym next)) put
+-- a piece that completes a sync word
+pub prints_batch : {T E : Type 0} (front : FrontEnd) (n : ℕ) (bits next : List Bool) (count : ℕ) (o1 o2 : Written ℕ) (r : Result T E) → TableStandsFor front n bits
+    → count ≡ n + 1 → entries (bits ++ next) ≡ entries bits ++ Batch ∷ [] → Puts o1 o2 (batch_line count) r → Prints table_of bits next o1 o2 r
+prints_batch front n bits next count o1 o2 r h count_is more put =
+    prints bits next (Batch ∷ []) n (batch_line count) o1 o2 r h.batches_are more (append-nil (batch_line (n + 1)) ∙ ap batch_line (sym count_is)) put
 
 -- what the table stands for then
-pub stands_on : (front after : FrontEnd) (n : ℕ) (bits : List Bool) (bit : Bool) (added : List Entry) (count : ℕ) → TableStandsFor front n bits
-    → FrontStandsFor after (bits ++ bit ∷ []) → entries (bits ++ bit ∷ []) ≡ entries bits ++ added → count ≡ n + batches_in added → batches_in added ≤ 1
-    → TableStandsFor after count (bits ++ bit ∷ [])
-stands_on front after n bits bit added count h stands more next one = record {
+pub stands_on : (front after : FrontEnd) (n : ℕ) (bits next : List Bool) (added : List Entry) (count : ℕ) → TableStandsFor front n bits
+    → FrontStandsFor after (bits ++ next) → entries (bits ++ next) ≡ entries bits ++ added → count ≡ n + batches_in added → batches_in added ≤ length next
+    → TableStandsFor after count (bits ++ next)
+stands_on front after n bits next added count h stands more count_is one = record {
   front_is = stands;
-  batches_are = omega (arith, next, h.batches_are, ap batches_in more, batches_in-append (entries bits) added);
-  few = omega (arith, next, h.few, one, length-append bits (bit ∷ []));
+  batches_are = omega (arith, count_is, h.batches_are, ap batches_in more, batches_in-append (entries bits) added);
+  few = omega (arith, count_is, h.few, one, length-append bits next);
 }

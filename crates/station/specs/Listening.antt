@@ -1,7 +1,8 @@
 -- Bits that were listened to, and what was printed of them.
-use Rattle.std.specs.Prelude.{◌≡◌, ◌≢◌, ℕ, ◌*◌, ◌≤◌, ◌<◌, Bool, List, [], ◌∷◌, ◌++◌, length, Result, IsTrue}
+use Rattle.std.specs.Prelude.{◌≡◌, ◌≢◌, ℕ, ◌+◌, ◌*◌, ◌≤◌, ◌<◌, Bool, List, [], ◌∷◌, ◌++◌, length, Result, Ok, Err, IsTrue}
 use Rattle.wires.specs.Causes.{Rose}
 use Rattle.wires.specs.Left.{Left, Took}
+use Rattle.wires.specs.Pieces.{taken_of}
 use Rattle.wires.specs.Written.{Written, Puts}
 use Rattle.station.specs.declared.statuses.Status.{Status}
 use Rattle.station.specs.declared.statuses.Status.TheVariants.{Done, FileFault, OutFault, TooLong}
@@ -11,11 +12,16 @@ use Rattle.station.specs.Wrote.{Wrote, WroteFront}
 abbrev pub most_bits : ℕ
 most_bits = 8 * 67108864
 
--- One bit more prints this piece more.
-pub record Prints {T E : Type 0} (printed : List Bool → List ℕ) (bits : List Bool) (bit : Bool) (old new : Written ℕ) (result : Result T E) : Type 0 where
+-- The next bits print this piece more.
+pub record Prints {T E : Type 0} (printed : List Bool → List ℕ) (bits next : List Bool) (old new : Written ℕ) (result : Result T E) : Type 0 where
   pub piece : List ℕ
-  pub more : printed (bits ++ bit ∷ []) ≡ printed bits ++ piece
+  pub more : printed (bits ++ next) ≡ printed bits ++ piece
   pub put : Puts old new piece result
+
+-- the bits of a piece of which it was put what they give: those that were taken, or after Failed all, of which a front was put
+abbrev pub put_of : {T E : Type 0} → Result T E → List Bool → List Bool → List Bool
+put_of (Ok _) old new = taken_of old new
+put_of (Err _) old new = old
 
 -- A read failed after these bits, and a fault was counted, which no steady source has.
 pub record FailedAfter (old new : Left Bool) (bits : List Bool) : Type 0 where
@@ -66,10 +72,10 @@ Listens printed old new out0 out FileFault = ListenedToFault printed old new out
 Listens printed old new out0 out OutFault = ListenedUnheard printed old new out0 out
 Listens printed old new out0 out other = ⊥
 
--- Listening is under way: these bits were read, and what they give was printed.
-pub record ListeningTo (printed : List Bool → List ℕ) (old now : Left Bool) (out0 out : Written ℕ) (n : ℕ) : Type 0 where
+-- Listening is under way: these bits were read, and what they give was printed. So many bits more are listened to.
+pub record ListeningTo (printed : List Bool → List ℕ) (old now : Left Bool) (out0 out : Written ℕ) (to_come : ℕ) : Type 0 where
   pub bits : List Bool
   pub took : Took old now bits
-  pub there : IsTrue old.tells → 0 < n → IsTrue old.there
-  pub many : length bits ≡ n
+  pub there : IsTrue old.tells → 0 < length bits → IsTrue old.there
+  pub many : length bits + to_come ≡ most_bits
   pub wrote : Wrote out0 out (printed bits)

@@ -3,9 +3,10 @@
 ghost use Rattle.std.specs.Prelude.{◌≡◌, ◌<◌, ◌^◌, [], ◌∷◌, IsTrue, MatchOption, length};
 ghost use Rattle.station.specs.Noise.{ListensThrough, NoiseGives};
 
-use crate::listening::Listener;
+use crate::listening::{Listener, hear_all};
 use crate::statuses::Status;
 use wires::Failed;
+use wires::piece::Piece;
 use wires::sink::Sink;
 use wires::source::BitSource;
 
@@ -58,7 +59,7 @@ pub(crate) fn listen_through<A: BitSource, N: BitSource, P: Listener, O: Sink>(
             Ok(flip) => flip,
             Err(Failed) => return Status::FileFault,
         };
-        if let Err(Failed) = listener.hear(bit ^ flip, out) {
+        if let Err(Failed) = hear_all(Piece::of(u32::from(bit ^ flip), 1), listener, out) {
             return Status::OutFault;
         }
     }

@@ -12,6 +12,7 @@ use crate::table::Table;
 use page_text::line;
 use receiver::Group;
 use wires::Failed;
+use wires::piece::Piece;
 use wires::sink::Sink;
 use wires::source::BitSource;
 use wires::steps::{Steps, Work};
@@ -24,9 +25,9 @@ impl Listener for Group {
 
     ghost fed = { λ g bits. StandsFor g bits };
 
-    fn hear<O: Sink>(&mut self, bit: bool, out: &mut O) -> Result<(), Failed> {
+    fn hear<O: Sink>(&mut self, piece: &mut Piece, out: &mut O) -> Result<(), Failed> {
         let mut steps = Steps::<Work>::new();
-        let Some(page) = self.feed(bit, &mut steps) else {
+        let Some(page) = self.feed_piece(piece, &mut steps) else {
             return Ok(());
         };
         let mut text = [0; LONGEST_TEXT];

@@ -15,6 +15,7 @@ use itoa::Buffer;
 use page_text::lines::{digits, hex_digit};
 use receiver::front::{Front, FrontEvent};
 use wires::Failed;
+use wires::piece::Piece;
 use wires::sink::Sink;
 
 /// The most bytes of a line: `batch `, at most 40 digits, LF.
@@ -51,8 +52,8 @@ impl Listener for Table {
 
     ghost fed = { λ t bits. TableStandsFor t.front t.batches bits };
 
-    fn hear<O: Sink>(&mut self, bit: bool, out: &mut O) -> Result<(), Failed> {
-        match self.front.feed(bit) {
+    fn hear<O: Sink>(&mut self, piece: &mut Piece, out: &mut O) -> Result<(), Failed> {
+        match self.front.feed_piece(piece) {
             FrontEvent::Still => Ok(()),
             FrontEvent::Lost => Ok(()),
             FrontEvent::Batch => {

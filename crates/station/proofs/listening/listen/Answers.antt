@@ -2,26 +2,26 @@ use Rattle.std.proofs.Common.{◌∙◌, refl, arith}
 use Rattle.station.proofs.Listens.{heard_unprinted, listening_begins, listening_goes_on, prints_as}
 use Rattle.station.proofs.listening.listen.Goals as goal
 
-pub loop-init : goal.loop-init
-loop-init g c = record {
+pub loop-to_come-init : goal.loop-to_come-init
+loop-to_come-init g c = record {
   same = refl;
   so_far = (listening_begins (g.P.Listener.printed c.args.listener.now) (g.B.BitSource.state c.args.bits.now) (g.O.Sink.state c.args.out.now) c.requires.silent, c.requires.none);
 }
 
-pub returns-in-Err-hear : goal.returns-in-Err-hear
-returns-in-Err-hear g c =
-    let h = c.loop.invariant.so_far in
-    heard_unprinted _ _ _ _ _ _ _ c.loop.counter c.in-Ok-Some.bit _ _ c.in-Ok-Some.field-0-is (omega arith) h.0 c.in-Ok-Some.ensures
-    (prints_as _ _ h.0.bits c.in-Ok-Some.bit _ _ _ c.loop.invariant.same (c.in-Err-hear.ensures.prints h.0.bits (omega (arith, h.0.many)) h.1))
+pub returns-in-Err-hear_all : goal.returns-in-Err-hear_all
+returns-in-Err-hear_all g c =
+    let h = c.loop-to_come.invariant.so_far in
+    heard_unprinted _ _ _ _ _ _ _ c.loop-to_come.to_come _ c.in-Ok.piece _ h.0 c.in-Ok.ensures (omega (arith, c.in-Ok.ensures.few))
+    (prints_as _ _ h.0.bits c.in-Ok.piece _ _ _ c.loop-to_come.invariant.same (c.in-Err-hear_all.ensures.prints h.0.bits (omega (arith, h.0.many, c.in-Ok.ensures.few)) h.1))
 
-pub loop-preserved : goal.loop-preserved
-loop-preserved g c =
-    let h = c.loop.invariant.so_far in
+pub loop-to_come-preserved : goal.loop-to_come-preserved
+loop-to_come-preserved g c =
+    let h = c.loop-to_come.invariant.so_far in
     record {
-      same = c.in_default.ensures.same ∙ c.loop.invariant.same;
+      same = c.in_default.ensures.same ∙ c.loop-to_come.invariant.same;
       so_far = (
-        listening_goes_on _ _ _ _ _ _ _ c.loop.counter c.in-Ok-Some.bit _ _ c.in-Ok-Some.field-0-is h.0 c.in-Ok-Some.ensures
-            (prints_as _ _ h.0.bits c.in-Ok-Some.bit _ _ _ c.loop.invariant.same (c.in_default.ensures.prints h.0.bits (omega (arith, h.0.many)) h.1)),
-        c.in_default.ensures.fed h.0.bits (omega (arith, h.0.many)) h.1,
+        listening_goes_on _ _ _ _ _ _ _ c.loop-to_come.to_come _ _ c.in-Ok.piece _ h.0 c.in-Ok.ensures (omega (arith, c.len-to_come.ensures.length, c.in-Ok.ensures.few))
+            (prints_as _ _ h.0.bits c.in-Ok.piece _ _ _ c.loop-to_come.invariant.same (c.in_default.ensures.prints h.0.bits (omega (arith, h.0.many, c.in-Ok.ensures.few)) h.1)),
+        c.in_default.ensures.fed h.0.bits (omega (arith, h.0.many, c.in-Ok.ensures.few)) h.1,
       );
     }
