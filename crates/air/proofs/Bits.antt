@@ -1,13 +1,15 @@
--- The bits of a transmission, one at a time.
-use Rattle.std.proofs.Common.{◌≡◌, ◌≢◌, ℕ, ◌-◌, ◌/◌, ◌%◌, ◌^◌, ◌==◌, Bool, List, [], ◌∷◌, Ok, Some, None, refl, ◌∙◌, ap, ap₂, arith}
+-- The bits of a transmission, one or some at a time.
+use Rattle.std.proofs.Common.{◌≡◌, ◌≢◌, ℕ, ◌-◌, ◌/◌, ◌%◌, ◌^◌, ◌<◌, ◌≤◌, ◌==◌, Bool, List, [], ◌∷◌, ◌++◌, length, Ok, Some, None, refl, sym, ◌∙◌, ap, ap₂, arith}
 use Rattle.std.specs.Borrow.{GName}
-use Rattle.bits.specs.Bits.{words_bits}
+use Rattle.bits.specs.Bits.{bits_of, words_bits}
 use Rattle.page_text.specs.Page.{Page}
 use Rattle.page_pool.specs.Pool.{Pool}
 use Rattle.wires.specs.declared.Failed.{Failed}
 use Rattle.wires.specs.Held.{Lent}
-use Rattle.wires.specs.Left.{TakesOne}
-use Rattle.wires.proofs.Ahead.{goes_on, none_pending}
+use Rattle.wires.specs.Left.{TakesOne, TakesPiece}
+use Rattle.wires.proofs.Ahead.{cut_bits, goes_on, none_pending}
+use Rattle.wires.proofs.Pieces.{none_left}
+use Rattle.bits.proofs.Lengths.{length-bits_of}
 use Rattle.air.specs.Air.{IsAir}
 use Rattle.air.specs.Left.{air_bits, bits_to_come, words_to_come, AreWords}
 use Rattle.air.specs.declared.order.Order.{Order}
@@ -44,6 +46,21 @@ module _ (p n p' n' : ℕ) (s s' : Order) (w w' : Pool) (a b c d : GName) (pool 
     lent = ap₂ (λ (x y : GName). Lent x ∷ Lent y ∷ []) pool steps;
   }
 
+module _ (p n p' n' : ℕ) (s s' : Order) (w w' : Pool) (a b c d : GName) (pool : c ≡ a) (steps : d ≡ b) where
+  -- a piece came out, which is empty only where no bit was left
+  pub takes_piece : (most : ℕ) (piece : List Bool) → length piece ≤ most → bits_to_come p n s w ≡ piece ++ bits_to_come p' n' s' w' → (piece ≡ [] → bits_to_come p n s w ≡ [])
+      → TakesPiece {E = Failed} most (air_bits p n s w a b) (air_bits p' n' s' w' c d) (Ok piece)
+  takes_piece most piece few e end = record {
+    tells = refl;
+    few = few;
+    left = λ t. (e, end);
+    there = λ t here. refl;
+    came = λ t. refl;
+    steady = λ t u. (refl, refl);
+    faults = record { later = omega arith; failed = tt; kept = refl };
+    lent = ap₂ (λ (x y : GName). Lent x ∷ Lent y ∷ []) pool steps;
+  }
+
 -- without words no bit is left
 pub bits-none : (p n : ℕ) (s : Order) (w : Pool) → p ≡ 0 → words_to_come s w ≡ [] → bits_to_come p n s w ≡ []
 bits-none p n s w z e = none_pending p n (words_bits (words_to_come s w)) z ∙ ap words_bits e
@@ -58,3 +75,23 @@ bits-word p n s s' w w' word z e =
 -- the next bit of the word that was begun
 pub bits-bit : (p n : ℕ) (s : Order) (w : Pool) → p ≢ 0 → bits_to_come p n s w ≡ (n / 2 ^ (p - 1) % 2 == 1) ∷ bits_to_come (p - 1) n s w
 bits-bit p n s w z = goes_on p n (words_bits (words_to_come s w)) z
+
+-- the next word was begun, of which no bit was taken
+pub bits-begun : (p n : ℕ) (s s' : Order) (w w' : Pool) (word : ℕ) → p ≡ 0 → words_to_come s w ≡ word ∷ words_to_come s' w' → bits_to_come 32 word s' w' ≡ bits_to_come p n s w
+bits-begun p n s s' w w' word z e = sym (none_pending p n (words_bits (words_to_come s w)) z ∙ ap words_bits e)
+
+-- an empty piece
+pub nothing-comes : (piece : List Bool) (old new : List Bool) → piece ≡ bits_of 0 0 → new ≡ old → old ≡ [] → (length piece ≡ 0) × (old ≡ piece ++ new) × (piece ≡ [] → old ≡ [])
+nothing-comes piece old new is same none =
+    let z = is ∙ none_left 0 0 refl in
+    (ap length z, sym same ∙ ap (λ (xs : List Bool). xs ++ new) (sym z), λ e. none)
+
+-- the next bits of the word that was begun
+pub bits-piece : (p n count : ℕ) (s : Order) (w : Pool) (piece old : List Bool) → 0 < count → count ≤ p → piece ≡ bits_of count (n / 2 ^ (p - count)) → bits_to_come p n s w ≡ old
+    → (length piece ≡ count) × (old ≡ piece ++ bits_to_come (p - count) n s w) × (piece ≡ [] → old ≡ [])
+bits-piece p n count s w piece old some le is same =
+    let l : length piece ≡ count = ap length is ∙ length-bits_of count (n / 2 ^ (p - count)) in (
+      l,
+      sym same ∙ cut_bits p count n (words_bits (words_to_come s w)) le ∙ ap (λ (xs : List Bool). xs ++ bits_to_come (p - count) n s w) (sym is),
+      λ e. absurd (let z = ap length e in omega (arith, some, l, z)),
+    )

@@ -1,6 +1,6 @@
 //! The bits of a transmission over a pool, as a source.
 
-ghost use Rattle.std.specs.Prelude.{◌≡◌, ◌≤◌, ◌∷◌, [], MatchOption};
+ghost use Rattle.std.specs.Prelude.{◌≡◌, ◌≤◌, ◌<◌, ◌∷◌, [], IsTrue, IsFalse, MatchOption};
 ghost use Rattle.page_pool.specs.Pool.{pages};
 ghost use Rattle.scheduler.specs.Sendings.{Follows, Keeps};
 ghost use Rattle.wires.specs.Left.{TakesOne};
@@ -11,8 +11,12 @@ use crate::order::Order;
 use page_pool::Pool;
 use std::sync::ledger::Ledger;
 use wires::Failed;
+use wires::piece::Piece;
 use wires::source::BitSource;
 use wires::steps::Steps;
+
+/// The bits of a word.
+const WORD_BITS: u32 = 32;
 
 /// The bits of a transmission of a pool's pages. It tells them, is always steady, and has no faults.
 #[derive(Drop)]
@@ -59,6 +63,25 @@ impl<'a, L: Ledger> AirBits<'a, L> {
     {
         self.order.next(self.pool, self.steps)
     }
+
+    /// Sees to it that a bit of a word that was begun is left, and answers whether one is.
+    fn begin(&mut self) -> bool
+        ensures pool_lent { self.new.pool.ghost_name ≡ self.old.pool.ghost_name }
+        ensures steps_lent { self.new.steps.ghost_name ≡ self.old.steps.ghost_name }
+        ensures same { bits_to_come self.new.pending self.new.word self.new.order self.new.pool.now ≡ bits_to_come self.old.pending self.old.word self.old.order self.old.pool.now }
+        ensures begun { IsTrue result → 0 < self.new.pending }
+        ensures ended { IsFalse result → bits_to_come self.old.pending self.old.word self.old.order self.old.pool.now ≡ [] }
+    {
+        if self.pending != 0 {
+            return true;
+        }
+        let Some(word) = self.next() else {
+            return false;
+        };
+        self.word = word;
+        self.pending = WORD_BITS;
+        true
+    }
 }
 
 impl<'a, L: Ledger> BitSource for AirBits<'a, L> {
@@ -75,5 +98,14 @@ impl<'a, L: Ledger> BitSource for AirBits<'a, L> {
         }
         self.pending -= 1;
         Ok(Some((self.word >> self.pending) % 2 == 1))
+    }
+
+    fn piece(&mut self, most: u32) -> Result<Piece, Failed> {
+        if !self.begin() {
+            return Ok(Piece::of(0, 0));
+        }
+        let count = most.min(self.pending);
+        self.pending -= count;
+        Ok(Piece::of(self.word >> self.pending, count))
     }
 }
