@@ -163,6 +163,12 @@ heard_prints printed fed now piece left o0 o h none bits lt f =
 pub Took-piece : {A E : Type 0} (most : ℕ) (a b : Left A) (piece : List A) → TakesPiece {E = E} most a b (Ok piece) → Took a b piece
 Took-piece most a b piece h = record { tells = h.tells; left = λ t. (h.left t).0; there = h.there; steady = λ t s. (h.steady t s).1; faults = h.faults.kept; lent = h.lent }
 
+-- an empty piece came, so nothing was left
+pub Took-empty : {E : Type 0} (most : ℕ) (a b : Left Bool) (piece : List Bool) → TakesPiece {E = E} most a b (Ok piece) → piece ≡ [] → Took a b [] × (IsTrue a.tells → b.left ≡ [])
+Took-empty {E} most a b piece t none =
+    let e : TakesPiece {E = E} most a b (Ok []) = subst (λ (p : List Bool). TakesPiece {E = E} most a b (Ok p)) none t in
+    (Took-piece most a b [] e, λ k. sym (e.left k).0 ∙ (e.left k).1 refl)
+
 -- nothing was read
 abbrev pub listening_begins : (printed : List Bool → List ℕ) (b : Left Bool) (o : Written ℕ) → printed [] ≡ [] → ListeningTo printed b b o o most_bits
 listening_begins printed b o e = record {
@@ -200,9 +206,7 @@ heard_end printed b0 b1 b2 o0 o n h took none came = record {
 -- an empty piece came
 pub heard_all : {E : Type 0} (printed : List Bool → List ℕ) (b0 b1 b2 : Left Bool) (o0 o : Written ℕ) (n most : ℕ) (piece : List Bool)
     → ListeningTo printed b0 b1 o0 o n → TakesPiece {E = E} most b1 b2 (Ok piece) → piece ≡ [] → ListenedToAll printed b0 b2 o0 o
-heard_all {E} printed b0 b1 b2 o0 o n most piece h t none =
-    let e : TakesPiece {E = E} most b1 b2 (Ok []) = subst (λ (p : List Bool). TakesPiece {E = E} most b1 b2 (Ok p)) none t in
-    heard_end printed b0 b1 b2 o0 o n h (Took-piece most b1 b2 [] e) (λ k. sym (e.left k).0 ∙ (e.left k).1 refl) e.came
+heard_all printed b0 b1 b2 o0 o n most piece h t none = let e = Took-empty most b1 b2 piece t none in heard_end printed b0 b1 b2 o0 o n h e.0 e.1 t.came
 
 -- no bit was left
 pub heard_just : {E : Type 0} (printed : List Bool → List ℕ) (b0 b1 b2 : Left Bool) (o0 o : Written ℕ) (n : ℕ)

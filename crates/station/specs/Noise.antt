@@ -1,5 +1,5 @@
 -- Bits that were listened to through a noise, and what was printed of them.
-use Rattle.std.specs.Prelude.{◌≡◌, ◌≢◌, ℕ, ◌≤◌, ◌<◌, Bool, true, false, List, [], ◌∷◌, ◌++◌, length, Result, Ok, Err, IsTrue}
+use Rattle.std.specs.Prelude.{◌≡◌, ◌≢◌, ℕ, ◌≤◌, ◌<◌, Bool, true, false, List, [], ◌++◌, length, replicate, Result, Ok, Err, IsTrue}
 use Rattle.wires.specs.Left.{Left, Took}
 use Rattle.wires.specs.Stacked.{noisy_bits}
 use Rattle.wires.specs.Written.{Written}
@@ -8,13 +8,17 @@ use Rattle.station.specs.declared.statuses.Status.TheVariants.{Done, FileFault, 
 use Rattle.station.specs.Listening.{FailedAfter}
 use Rattle.station.specs.Wrote.{Wrote, WroteFront}
 
--- The next bit of a noise was given, by whether the noise had ended before and has ended now. Behind its end all bits are 0, and up to it
+-- all bits are 0
+abbrev pub AreZero : List Bool → Type 0
+AreZero bits = bits ≡ replicate (length bits) false
+
+-- The next bits of a noise were given, by whether the noise had ended before and has ended now. Behind its end all bits are 0, and up to it
 -- the noise is there.
-abbrev pub NoiseGives : {E : Type 0} → Bool → Bool → Left Bool → Left Bool → Result Bool E → Type 0
-NoiseGives false false old new (Ok bit) = Took old new (bit ∷ []) × (IsTrue old.tells → IsTrue old.there)
-NoiseGives false true old new (Ok bit) = (bit ≡ false) × Took old new [] × (IsTrue old.tells → new.left ≡ []) × (IsTrue old.tells → IsTrue old.there)
-NoiseGives true true old new (Ok bit) = (bit ≡ false) × (new ≡ old)
-NoiseGives true false old new (Ok bit) = ⊥
+abbrev pub NoiseGives : {E : Type 0} → Bool → Bool → Left Bool → Left Bool → Result (List Bool) E → Type 0
+NoiseGives false false old new (Ok bits) = Took old new bits × (IsTrue old.tells → IsTrue old.there)
+NoiseGives false true old new (Ok bits) = AreZero bits × Took old new [] × (IsTrue old.tells → new.left ≡ []) × (IsTrue old.tells → IsTrue old.there)
+NoiseGives true true old new (Ok bits) = AreZero bits × (new ≡ old)
+NoiseGives true false old new (Ok bits) = ⊥
 NoiseGives false after old new (Err _) = FailedAfter old new []
 NoiseGives true after old new (Err _) = ⊥
 

@@ -14,7 +14,7 @@ use wires::source::BitSource;
 const MOST_BITS: u32 = 8 * 67_108_864;
 
 /// The most bits that are read at a time.
-const MOST_AT_A_TIME: u32 = 32;
+pub(crate) const MOST_AT_A_TIME: u32 = 32;
 
 /// Hears bits, and prints what they give.
 pub(crate) trait Listener {

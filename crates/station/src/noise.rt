@@ -1,41 +1,71 @@
-//! Listening to bits through a noise.
+//! Listening to bits through a noise, some at a time.
 
-ghost use Rattle.std.specs.Prelude.{◌≡◌, ◌<◌, ◌^◌, [], ◌∷◌, IsTrue, MatchOption, length};
+ghost use Rattle.std.specs.Prelude.{◌≡◌, ◌<◌, ◌≤◌, ◌^◌, [], ◌++◌, IfOk, IsFalse, IsTrue, drop, length, take};
 ghost use Rattle.station.specs.Noise.{ListensThrough, NoiseGives};
+ghost use Rattle.wires.specs.Stacked.{noisy_bits};
 
-use crate::listening::{Listener, hear_all};
+use crate::listening::{Listener, MOST_AT_A_TIME, hear_all};
 use crate::statuses::Status;
 use wires::Failed;
 use wires::piece::Piece;
 use wires::sink::Sink;
 use wires::source::BitSource;
 
-/// The next bit of a source that tells its bits and is steady: it has no fault.
-fn told_bit<A: BitSource>(bits: &mut A) -> Option<bool>
+/// Sees to it that a bit of a piece is left, where one is left of the piece or of a source that tells its bits and is steady: it has
+/// no fault. It answers whether one is.
+fn refill<A: BitSource>(bits: &mut A, piece: &mut Piece) -> bool
     requires told { IsTrue (A.state bits.old).tells }
     requires steady { IsTrue (A.state bits.old).steady }
     ensures told { IsTrue (A.state bits.new).tells }
     ensures steady { IsTrue (A.state bits.new).steady }
-    ensures gives { MatchOption result ((A.state bits.old).left ≡ []) (λ bit. (A.state bits.old).left ≡ bit ∷ (A.state bits.new).left) }
+    ensures same { piece.new ++ (A.state bits.new).left ≡ piece.old ++ (A.state bits.old).left }
+    ensures some { IsTrue result → 0 < length piece.new }
+    ensures end { IsFalse result → piece.old ++ (A.state bits.old).left ≡ [] }
 {
-    bits.bit().unwrap_or(None)
+    if !piece.is_empty() {
+        return true;
+    }
+    match bits.piece(MOST_AT_A_TIME) {
+        Ok(next) => {
+            let is_some = !next.is_empty();
+            *piece = next;
+            is_some
+        }
+        Err(Failed) => false,
+    }
 }
 
-/// The next bit of a noise, which is 0 behind its end.
-fn noise_bit<N: BitSource>(noise: &mut N, ended: &mut bool) -> Result<bool, Failed>
-    ensures { NoiseGives ended.old ended.new (N.state noise.old) (N.state noise.new) result }
+/// Some next bits of a noise, at most so many, which are 0 behind its end.
+fn noise_piece<N: BitSource>(noise: &mut N, ended: &mut bool, most: u32) -> Result<Piece, Failed>
+    requires some { 0 < most }
+    requires few { most ≤ 32 }
+    ensures gives { NoiseGives ended.old ended.new (N.state noise.old) (N.state noise.new) result }
+    ensures some { IfOk result (λ flips. 0 < length flips) }
+    ensures few { IfOk result (λ flips. length flips ≤ most) }
 {
     if *ended {
-        return Ok(false);
+        return Ok(Piece::of(0, most));
     }
-    match noise.bit() {
-        Ok(Some(bit)) => Ok(bit),
-        Ok(None) => {
-            *ended = true;
-            Ok(false)
-        }
-        Err(Failed) => Err(Failed),
+    let piece = match noise.piece(most) {
+        Ok(piece) => piece,
+        Err(Failed) => return Err(Failed),
+    };
+    if !piece.is_empty() {
+        return Ok(piece);
     }
+    *ended = true;
+    Ok(Piece::of(0, most))
+}
+
+/// Takes the first bits of a piece, one for each bit of the noise, each xor that bit.
+fn flip_first(piece: &mut Piece, flips: &Piece) -> Piece
+    requires { length flips.now ≤ length piece.old }
+    ensures flipped { result ≡ noisy_bits (take (length flips.now) piece.old) flips.now }
+    ensures left { piece.new ≡ drop (length flips.now) piece.old }
+{
+    let count = flips.len();
+    let first = piece.take(count);
+    Piece::of((first ^ flips.number()) as u32, count)
 }
 
 /// Hears all bits that are left, which are told and fewer than 2^32, each xor the bit of the noise, and prints what they give. The
@@ -54,12 +84,14 @@ pub(crate) fn listen_through<A: BitSource, N: BitSource, P: Listener, O: Sink>(
     ensures { ListensThrough (P.printed listener.old) (A.state bits.old).left (N.state noise.old) (N.state noise.new) (O.state out.old) (O.state out.new) result }
 {
     let mut ended = false;
-    while let Some(bit) = told_bit(bits) {
-        let flip = match noise_bit(noise, &mut ended) {
-            Ok(flip) => flip,
+    let mut piece = Piece::of(0, 0);
+    while refill(bits, &mut piece) {
+        let flips = match noise_piece(noise, &mut ended, piece.len()) {
+            Ok(flips) => flips,
             Err(Failed) => return Status::FileFault,
         };
-        if let Err(Failed) = hear_all(Piece::of(u32::from(bit ^ flip), 1), listener, out) {
+        let flipped = flip_first(&mut piece, &flips);
+        if let Err(Failed) = hear_all(flipped, listener, out) {
             return Status::OutFault;
         }
     }
