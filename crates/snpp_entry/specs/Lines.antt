@@ -1,0 +1,56 @@
+-- Characters, the lines of a list of them, and the verb and the argument of a line.
+use Rattle.std.specs.Prelude.{ℕ, ◌%◌, ◌==◌, List, [], ◌∷◌, ◌++◌, cond, if◌then◌else◌, Bool}
+
+-- line feed
+abbrev pub lf : ℕ
+lf = 10
+
+-- carriage return
+abbrev pub cr : ℕ
+cr = 13
+
+-- space
+abbrev pub space : ℕ
+space = 32
+
+-- a byte stands for its low seven bits
+abbrev pub char_of : ℕ → ℕ
+char_of byte = byte % 128
+
+-- A list of characters, cut after each LF: the pieces that an LF ends, without it, and what follows the last LF.
+pub record Cut : Type 0 where
+  pub pieces : List (List ℕ)
+  pub rest : List ℕ
+
+-- one character more
+abbrev pub with_char : Cut → ℕ → Cut
+with_char k c = if c == lf then record { pieces = k.pieces ++ k.rest ∷ []; rest = [] } else record { pieces = k.pieces; rest = k.rest ++ c ∷ [] }
+
+-- further characters
+abbrev pub cut_on : Cut → List ℕ → Cut
+cut_on k [] = k
+cut_on k (c ∷ x) = cut_on (with_char k c) x
+
+-- no character
+abbrev pub uncut : Cut
+uncut = record { pieces = []; rest = [] }
+
+-- the cut of a list
+abbrev pub cut : List ℕ → Cut
+cut x = cut_on uncut x
+
+-- the line of a piece: without one CR at its end
+abbrev pub line_of : List ℕ → List ℕ
+line_of [] = []
+line_of (c ∷ []) = if c == cr then [] else c ∷ []
+line_of (c ∷ d ∷ x) = c ∷ line_of (d ∷ x)
+
+-- what stands before the first space
+abbrev pub verb : List ℕ → List ℕ
+verb [] = []
+verb (c ∷ x) = if c == space then [] else c ∷ verb x
+
+-- what follows the first space, or nothing
+abbrev pub argument : List ℕ → List ℕ
+argument [] = []
+argument (c ∷ x) = if c == space then x else argument x

@@ -1,0 +1,23 @@
+-- What a session is counted as.
+use Rattle.std.specs.Prelude.{ℕ, ◌+◌, Bool, true, false, List, length, count_by}
+use Rattle.page_text.specs.Page.{Page}
+use Rattle.snpp_entry.specs.declared.answers.SnppAnswer.{SnppAnswer}
+use Rattle.snpp_entry.specs.declared.answers.SnppAnswer.TheVariants.{Nothing, Ok, Bye, TooLong, Command, Twice, Missing, Pager, Text, Room}
+use Rattle.snpp_entry.specs.declared.report.SnppReport.{SnppReport}
+
+-- the answers that refuse a line
+abbrev pub is_refusal : SnppAnswer → Bool
+is_refusal Nothing = false
+is_refusal Ok = false
+is_refusal Bye = false
+is_refusal TooLong = false
+is_refusal Command = true
+is_refusal Twice = true
+is_refusal Missing = true
+is_refusal Pager = true
+is_refusal Text = true
+is_refusal Room = true
+
+-- how many pages were queued, and how many lines were refused
+abbrev pub report_of : List SnppAnswer → List Page → SnppReport
+report_of answers pages = record { pages = length pages; refused = count_by is_refusal answers }

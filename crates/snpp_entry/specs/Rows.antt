@@ -1,0 +1,124 @@
+-- How a line is answered: the rows of the table of lines, the first that applies.
+use Rattle.std.specs.Prelude.{ℕ, ◌+◌, ◌*◌, nat_lt, Bool, true, false, ◌||◌, List, [], ◌∷◌, map, length, codes, Option, Some, None, if◌then◌else◌}
+use Rattle.std.specs.FinMap.{get}
+use Rattle.std.specs.Str.{str_eq_ignore_ascii_case}
+use Rattle.codeword.specs.declared.functions.Function.{Function}
+use Rattle.codeword.specs.declared.functions.Function.TheVariants.{Numeric, Tone1, Tone2, Alpha}
+use Rattle.page_text.specs.Page.{Page}
+use Rattle.page_pool.specs.Cells.{cells_for}
+use Rattle.subscribers.specs.declared.subscriber.Subscriber.{Subscriber}
+use Rattle.subscribers.specs.Parts.{Parts}
+use Rattle.snpp_entry.specs.declared.answers.SnppAnswer.{SnppAnswer}
+use Rattle.snpp_entry.specs.declared.answers.SnppAnswer.TheVariants.{Ok, Bye, Command, Twice, Missing, Pager, Text, Room}
+use Rattle.snpp_entry.specs.declared.verbs.Verb.{Verb}
+use Rattle.snpp_entry.specs.declared.verbs.Verb.TheVariants.{Page as PAGE, Mess as MESS, Rese as RESE, Send as SEND, Quit as QUIT, Other as OTHER}
+use Rattle.snpp_entry.specs.Texts.{fits}
+use Rattle.snpp_entry.specs.Lines.{verb, argument}
+
+-- the subscriber of an id, or none
+abbrev pub Directory : Type 0
+Directory = List ℕ → Option Subscriber
+
+-- the directory of settings
+abbrev pub directory_of : Parts → Directory
+directory_of settings id = get settings.ids id
+
+-- the capcodes of an id, in their order: one
+abbrev pub capcodes : Subscriber → List ℕ
+capcodes s = s.capcode ∷ []
+
+-- the pages of an id: one with this text for each of its capcodes
+abbrev pub pages_to : Subscriber → List ℕ → List Page
+pages_to s text = map (λ c. record { capcode = c; function = s.function; text = text }) (capcodes s)
+
+-- the id and the text that are pending, or none
+pub record Pending : Type 0 where
+  pub id : Option (List ℕ)
+  pub text : Option (List ℕ)
+
+-- nothing is pending
+abbrev pub nothing : Pending
+nothing = record { id = None; text = None }
+
+-- the answer to a line, what is pending after it, and the pages that are queued
+pub record Outcome : Type 0 where
+  pub answer : SnppAnswer
+  pub pending : Pending
+  pub pages : List Page
+
+-- no page is queued
+abbrev pub plainly : SnppAnswer → Pending → Outcome
+plainly answer p = record { answer = answer; pending = p; pages = [] }
+
+-- a word, read without regard to case
+abbrev pub is_word : List ℕ → List ℕ → Bool
+is_word v w = str_eq_ignore_ascii_case v w
+
+-- the verb that a word is
+abbrev pub verb_of : List ℕ → Verb
+verb_of v =
+    if is_word v (codes "PAGE") || is_word v (codes "PAGER") then PAGE
+    else if is_word v (codes "MESS") || is_word v (codes "MESSAGE") then MESS
+    else if is_word v (codes "RESE") || is_word v (codes "RESET") then RESE
+    else if is_word v (codes "SEND") then SEND
+    else if is_word v (codes "QUIT") then QUIT
+    else OTHER
+
+-- rows 3 and 4, where no id is pending
+abbrev pub with_id : Pending → List ℕ → Option Subscriber → Outcome
+with_id p id None = plainly Pager p
+with_id p id (Some s) = plainly Ok (record p { id = Some id })
+
+-- rows 2 to 4
+abbrev pub page_row : Directory → Pending → List ℕ → Option (List ℕ) → Outcome
+page_row directory p id (Some pending) = plainly Twice p
+page_row directory p id None = with_id p id (directory id)
+
+-- rows 5 and 6
+abbrev pub mess_row : Pending → List ℕ → Option (List ℕ) → Outcome
+mess_row p text (Some pending) = plainly Twice p
+mess_row p text None = plainly Ok (record p { text = Some text })
+
+-- rows 9 to 11, for this subscriber and this text
+abbrev pub send_text : ℕ → Subscriber → List ℕ → Outcome
+send_text spare s text =
+    if fits s.function text then
+    (if nat_lt spare (cells_for (length text) * length (capcodes s)) then plainly Room nothing else record { answer = Ok; pending = nothing; pages = pages_to s text })
+    else plainly Text nothing
+
+-- rows 8 to 11, where an id is pending, by its function and the text: without a text it is that of a tone
+abbrev pub send_by : ℕ → Pending → Subscriber → Function → Option (List ℕ) → Outcome
+send_by spare p s function (Some text) = send_text spare s text
+send_by spare p s Tone1 None = send_text spare s []
+send_by spare p s Tone2 None = send_text spare s []
+send_by spare p s Numeric None = plainly Missing p
+send_by spare p s Alpha None = plainly Missing p
+
+-- the same, by the subscriber
+abbrev pub send_to : ℕ → Pending → Option Subscriber → Outcome
+send_to spare p None = plainly Missing p
+send_to spare p (Some s) = send_by spare p s s.function p.text
+
+-- rows 8 to 11
+abbrev pub send_row : Directory → ℕ → Pending → Option (List ℕ) → Outcome
+send_row directory spare p None = plainly Missing p
+send_row directory spare p (Some id) = send_to spare p (directory id)
+
+-- a verb without an argument; row 13 where it has one
+abbrev pub alone : List ℕ → Pending → Outcome → Outcome
+alone [] p o = o
+alone (c ∷ a) p o = plainly Command p
+
+-- rows 2 to 13, by the verb
+abbrev pub by_verb : Directory → ℕ → Pending → Verb → List ℕ → Outcome
+by_verb directory spare p PAGE a = page_row directory p a p.id
+by_verb directory spare p MESS a = mess_row p a p.text
+by_verb directory spare p RESE a = alone a p (plainly Ok nothing)
+by_verb directory spare p SEND a = alone a p (send_row directory spare p p.id)
+by_verb directory spare p QUIT a = alone a p (plainly Bye p)
+by_verb directory spare p OTHER a = plainly Command p
+
+-- all rows
+abbrev pub outcome : Directory → ℕ → Pending → List ℕ → Outcome
+outcome directory spare p line =
+    if nat_lt 1100 (length line) then plainly Command p else by_verb directory spare p (verb_of (verb line)) (argument line)
