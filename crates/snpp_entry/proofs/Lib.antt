@@ -1,2 +1,5 @@
 pub mod Texts
+pub mod Pieces
+pub mod Outcomes
+pub mod Sessions
 mod Worked

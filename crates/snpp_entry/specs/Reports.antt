@@ -1,5 +1,5 @@
 -- What a session is counted as.
-use Rattle.std.specs.Prelude.{ℕ, ◌+◌, Bool, true, false, List, length, count_by}
+use Rattle.std.specs.Prelude.{ℕ, ◌+◌, Bool, true, false, List, length, count_by, if◌then◌else◌}
 use Rattle.page_text.specs.Page.{Page}
 use Rattle.snpp_entry.specs.declared.answers.SnppAnswer.{SnppAnswer}
 use Rattle.snpp_entry.specs.declared.answers.SnppAnswer.TheVariants.{Nothing, Ok, Bye, TooLong, Command, Twice, Missing, Pager, Text, Room}
@@ -21,3 +21,7 @@ is_refusal Room = true
 -- how many pages were queued, and how many lines were refused
 abbrev pub report_of : List SnppAnswer → List Page → SnppReport
 report_of answers pages = record { pages = length pages; refused = count_by is_refusal answers }
+
+-- a report with one answer more, and so many pages
+abbrev pub added : SnppReport → SnppAnswer → ℕ → SnppReport
+added r answer n = record { pages = r.pages + n; refused = r.refused + (if is_refusal answer then 1 else 0) }

@@ -86,18 +86,23 @@ send_text spare s text =
     (if nat_lt spare (cells_for (length text) * length (capcodes s)) then plainly Room nothing else record { answer = Ok; pending = nothing; pages = pages_to s text })
     else plainly Text nothing
 
--- rows 8 to 11, where an id is pending, by its function and the text: without a text it is that of a tone
-abbrev pub send_by : ℕ → Pending → Subscriber → Function → Option (List ℕ) → Outcome
-send_by spare p s function (Some text) = send_text spare s text
-send_by spare p s Tone1 None = send_text spare s []
-send_by spare p s Tone2 None = send_text spare s []
-send_by spare p s Numeric None = plainly Missing p
-send_by spare p s Alpha None = plainly Missing p
+-- the text of the pages of an id with this function: the one that is pending, or else the empty one of a tone, or none
+abbrev pub text_for : Function → Option (List ℕ) → Option (List ℕ)
+text_for function (Some text) = Some text
+text_for Tone1 None = Some []
+text_for Tone2 None = Some []
+text_for Numeric None = None
+text_for Alpha None = None
 
--- the same, by the subscriber
+-- rows 8 to 11, for this subscriber and its text
+abbrev pub send_by : ℕ → Pending → Subscriber → Option (List ℕ) → Outcome
+send_by spare p s None = plainly Missing p
+send_by spare p s (Some text) = send_text spare s text
+
+-- the same, by the subscriber of the id
 abbrev pub send_to : ℕ → Pending → Option Subscriber → Outcome
 send_to spare p None = plainly Missing p
-send_to spare p (Some s) = send_by spare p s s.function p.text
+send_to spare p (Some s) = send_by spare p s (text_for s.function p.text)
 
 -- rows 8 to 11
 abbrev pub send_row : Directory → ℕ → Pending → Option (List ℕ) → Outcome

@@ -2,12 +2,18 @@
 //!
 //! - `answers`: what a character is answered, and the bytes of a reply.
 //! - `report`: the counts of a session.
-//! - `verbs`: the verbs of the commands.
+//! - `verbs`: the verbs of the commands; `words`: the verb and the argument of a line.
+//! - `pending`: what is pending, and how a line is answered.
+//! - `snpp`: the session itself.
 #![tactic(auto)]
 
 pub mod answers;
+mod pending;
 pub mod report;
+pub mod snpp;
 mod verbs;
+mod words;
 
 pub use answers::{SnppAnswer, greeting, reply};
 pub use report::SnppReport;
+pub use snpp::Snpp;

@@ -1,0 +1,180 @@
+//! What is pending, and how a line is answered.
+
+ghost use Rattle.std.specs.Prelude.{◌≡◌, ◌≤◌, List, ℕ, length, option_map, take, min};
+ghost use Rattle.snpp_entry.specs.Lines.{line_of};
+ghost use Rattle.snpp_entry.specs.Rows.{alone, directory_of, mess_row, nothing, outcome, page_row, plainly, send_row, send_text, text_for};
+ghost use Rattle.snpp_entry.specs.Seen.{pending_of};
+ghost use Rattle.snpp_entry.specs.Desk.{AreKept, IsDone};
+
+use crate::answers::SnppAnswer;
+use crate::verbs::{Verb, verb_of};
+use crate::words::{line_of, words};
+use arrayvec::ArrayVec;
+use codeword::Function;
+use page_pool::Pool;
+use page_text::fits;
+use subscribers::{Settings, Subscriber};
+
+/// The most characters of a line.
+pub(crate) const LONGEST_LINE: usize = 1100;
+
+/// The id and the text that are pending, or none.
+#[derive(Drop)]
+pub(crate) struct Held {
+    pub(crate) id: Option<ArrayVec<u8, LONGEST_LINE>>,
+    pub(crate) text: Option<ArrayVec<u8, LONGEST_LINE>>,
+}
+
+impl Held {
+    /// Nothing is pending.
+    pub(crate) fn nothing() -> Held
+        ensures { pending_of result ≡ nothing }
+    {
+        Held {
+            id: None,
+            text: None,
+        }
+    }
+}
+
+/// A copy of characters.
+fn copied(chars: &[u8]) -> ArrayVec<u8, LONGEST_LINE>
+    requires { length chars.now ≤ 1100 }
+    ensures { result.items ≡ chars.now }
+{
+    let mut copy = ArrayVec::new();
+    let _ = copy.try_extend_from_slice(chars);
+    copy
+}
+
+/// Answers PAGE.
+fn page(pending: &mut Held, id: &[u8], settings: &Settings) -> SnppAnswer
+    requires { length id.now ≤ 1100 }
+    ensures { page_row (directory_of settings.now) (pending_of pending.old) id.now (pending_of pending.old).id ≡ plainly result (pending_of pending.new) }
+{
+    match &pending.id {
+        Some(_) => SnppAnswer::Twice,
+        None => match settings.find(id) {
+            None => SnppAnswer::Pager,
+            Some(_) => {
+                pending.id = Some(copied(id));
+                SnppAnswer::Ok
+            }
+        },
+    }
+}
+
+/// Answers MESS.
+fn mess(pending: &mut Held, text: &[u8]) -> SnppAnswer
+    requires { length text.now ≤ 1100 }
+    ensures { mess_row (pending_of pending.old) text.now (pending_of pending.old).text ≡ plainly result (pending_of pending.new) }
+{
+    match &pending.text {
+        Some(_) => SnppAnswer::Twice,
+        None => {
+            pending.text = Some(copied(text));
+            SnppAnswer::Ok
+        }
+    }
+}
+
+/// The text of the pages of an id with this function: the one that is pending, or else the empty one of a tone, or none.
+fn text_for(function: Function, text: &Option<ArrayVec<u8, LONGEST_LINE>>) -> Option<&[u8]>
+    ensures { option_map (λ t. t.now) result ≡ text_for function (option_map (λ v. v.items) text.now) }
+{
+    match text {
+        Some(text) => Some(text.as_slice()),
+        None => match function {
+            Function::Tone1 | Function::Tone2 => Some(b""),
+            Function::Numeric | Function::Alpha => None,
+        },
+    }
+}
+
+/// Queues the pages of an id with this text: the answer, and how many they are.
+fn send_text(subscriber: Subscriber, text: &[u8], pool: &mut Pool) -> (SnppAnswer, u32)
+    ensures { IsDone (send_text pool.old.spare subscriber text.now) result.0 result.1 nothing pool.old pool.new }
+{
+    match fits(subscriber.function, text) {
+        Err(_) => (SnppAnswer::Text, 0),
+        Ok(()) => match pool.put(subscriber.capcode, subscriber.function, text) {
+            Ok(()) => (SnppAnswer::Ok, 1),
+            Err(_) => (SnppAnswer::Room, 0),
+        },
+    }
+}
+
+/// Answers SEND: the answer, and how many pages were queued.
+fn send(pending: &mut Held, settings: &Settings, pool: &mut Pool) -> (SnppAnswer, u32)
+    ensures { IsDone (send_row (directory_of settings.now) pool.old.spare (pending_of pending.old) (pending_of pending.old).id) result.0 result.1 (pending_of pending.new) pool.old pool.new }
+{
+    match &pending.id {
+        None => (SnppAnswer::Missing, 0),
+        Some(id) => match settings.find(id.as_slice()) {
+            None => (SnppAnswer::Missing, 0),
+            Some(subscriber) => match text_for(subscriber.function, &pending.text) {
+                None => (SnppAnswer::Missing, 0),
+                Some(text) => {
+                    let sent = send_text(subscriber, text, pool);
+                    *pending = Held::nothing();
+                    sent
+                }
+            },
+        },
+    }
+}
+
+/// Answers a line: the answer, and how many pages were queued.
+fn answer(pending: &mut Held, line: &[u8], settings: &Settings, pool: &mut Pool) -> (SnppAnswer, u32)
+    ensures { IsDone (outcome (directory_of settings.now) pool.old.spare (pending_of pending.old) line.now) result.0 result.1 (pending_of pending.new) pool.old pool.new }
+{
+    if line.len() > LONGEST_LINE {
+        return (SnppAnswer::Command, 0);
+    }
+    let (verb, argument) = words(line);
+    match verb_of(verb) {
+        Verb::Page => (page(pending, argument, settings), 0),
+        Verb::Mess => (mess(pending, argument), 0),
+        Verb::Rese => {
+            if argument.is_empty() {
+                *pending = Held::nothing();
+                (SnppAnswer::Ok, 0)
+            } else {
+                (SnppAnswer::Command, 0)
+            }
+        }
+        Verb::Send => {
+            if argument.is_empty() {
+                send(pending, settings, pool)
+            } else {
+                (SnppAnswer::Command, 0)
+            }
+        }
+        Verb::Quit => {
+            if argument.is_empty() {
+                (SnppAnswer::Bye, 0)
+            } else {
+                (SnppAnswer::Command, 0)
+            }
+        }
+        Verb::Other => (SnppAnswer::Command, 0),
+    }
+}
+
+/// Answers a piece that an LF ended, of which the first 1,101 characters are kept: the answer, and how many pages were queued.
+pub(crate) fn answer_piece(
+    pending: &mut Held,
+    kept: &[u8],
+    count: u32,
+    settings: &Settings,
+    pool: &mut Pool,
+) -> (SnppAnswer, u32)
+    ensures done { (piece : List ℕ) → AreKept piece kept.now count
+        → IsDone (outcome (directory_of settings.now) pool.old.spare (pending_of pending.old) (line_of piece)) result.0 result.1 (pending_of pending.new) pool.old pool.new }
+    ensures few { result.1 ≤ 1 }
+{
+    if count as usize > LONGEST_LINE + 1 {
+        return (SnppAnswer::Command, 0);
+    }
+    answer(pending, line_of(kept), settings, pool)
+}
