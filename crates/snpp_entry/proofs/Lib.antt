@@ -1,5 +1,7 @@
 pub mod Texts
 pub mod Pieces
+pub mod Cuts
 pub mod Outcomes
 pub mod Sessions
+pub mod Feeds
 mod Worked

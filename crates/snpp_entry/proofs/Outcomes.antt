@@ -1,13 +1,12 @@
 -- Outcomes, row by row.
-use Rattle.std.proofs.Common.{◌≡◌, ℕ, ◌+◌, ◌-◌, ◌*◌, ◌<◌, ◌≤◌, cond, Bool, true, false, List, [], ◌∷◌, ◌++◌, length, refl, ap, sym, ◌∙◌, subst, arith, Option, Some, None, nat_lt}
+use Rattle.std.proofs.Common.{◌≡◌, ℕ, ◌-◌, ◌*◌, ◌<◌, ◌≤◌, cond, Bool, true, false, List, [], ◌∷◌, length, refl, ap, sym, subst, arith, Option, Some, None, nat_lt}
 use Rattle.std.proofs.lemmas.Bool.Decides.{nat_tests}
 use Rattle.page_text.specs.Page.{Page}
 use Rattle.page_text.specs.Fits.{Fits}
 use Rattle.page_pool.specs.Cells.{cells_for}
 use Rattle.page_pool.specs.Pool.{Pool, Puts, page}
 use Rattle.subscribers.specs.declared.subscriber.Subscriber.{Subscriber}
-use Rattle.snpp_entry.specs.declared.answers.SnppAnswer.{SnppAnswer}
-use Rattle.snpp_entry.specs.declared.answers.SnppAnswer.TheVariants.{Ok, Bye, Command, Text, Room}
+use Rattle.snpp_entry.specs.declared.answers.SnppAnswer.TheVariants.{Ok, Command, Text, Room}
 use Rattle.snpp_entry.specs.declared.verbs.Verb.{Verb}
 use Rattle.snpp_entry.specs.declared.verbs.Verb.TheVariants.{Page as PAGE, Mess as MESS, Rese as RESE, Send as SEND, Quit as QUIT, Other as OTHER}
 use Rattle.snpp_entry.specs.Texts.{fits}

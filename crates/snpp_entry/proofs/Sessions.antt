@@ -1,15 +1,13 @@
 -- How a session goes on.
 use Rattle.std.proofs.Common.{◌≡◌, ℕ, ◌+◌, ◌-◌, ◌<◌, ◌≤◌, cond, Bool, true, false, not, ◌||◌, ◌&&◌, List, [], ◌∷◌, ◌++◌, length, take, refl, ap, sym, ◌∙◌, subst, append_assoc, append-nil, arith, length-append, nat_le, ◌⊎◌, inl, inr}
-use Rattle.std.specs.List.{flat_map}
 use Rattle.std.proofs.lemmas.Bool.{cases_lt}
 use Rattle.std.proofs.lemmas.Bool.Decides.{nat_tests}
 use Rattle.std.proofs.lemmas.Grind.{flat_map-append}
 use Rattle.std.proofs.lemmas.List.{take_all, take-append-le, map-append}
 use Rattle.std.proofs.Math.Seq.{take-append-add}
-use Rattle.page_text.specs.Page.{Page}
 use Rattle.snpp_entry.specs.declared.answers.SnppAnswer.{SnppAnswer}
 use Rattle.snpp_entry.specs.declared.answers.SnppAnswer.TheVariants.{TooLong}
-use Rattle.snpp_entry.specs.Lines.{Cut, cut, cut_on, uncut}
+use Rattle.snpp_entry.specs.Lines.{Cut, cut, uncut}
 use Rattle.snpp_entry.specs.Rows.{Directory, Outcome}
 use Rattle.snpp_entry.specs.Session.{Course, Session, session, session_of, start, decide, course_after, is_bye, tell, has_bye, answers_of, pages_of, is_too_long, longest, told_of, Continues}
 use Rattle.snpp_entry.specs.Desk.{course_at, IsOver}

@@ -1,5 +1,5 @@
 -- Worked sessions, by computation.
-use Rattle.std.proofs.Common.{◌≡◌, ℕ, List, [], ◌∷◌, ◌++◌, length, refl, true, false, Option, Some, None, replicate}
+use Rattle.std.proofs.Common.{◌≡◌, ℕ, List, [], ◌∷◌, ◌++◌, refl}
 use Rattle.std.specs.Prelude.{codes}
 use Rattle.std.specs.Ordering.{nat_cmp}
 use Rattle.std.specs.Cmp.Lexicographic.{slice_cmp, nat_list_cmp_total}
@@ -11,7 +11,7 @@ use Rattle.snpp_entry.specs.declared.answers.SnppAnswer.TheVariants.{Ok, Bye, Co
 use Rattle.snpp_entry.specs.Rows.{Directory}
 use Rattle.snpp_entry.specs.Replies.{replies, the_greeting, with_end}
 use Rattle.snpp_entry.specs.Reports.{report_of}
-use Rattle.snpp_entry.specs.Session.{Session, session, session_of}
+use Rattle.snpp_entry.specs.Session.{session, session_of}
 
 -- six subscribers
 abbrev subscribers : List (List ℕ × Subscriber)

@@ -1,14 +1,14 @@
 -- What an Snpp holds, and the characters that it stands for.
-use Rattle.std.specs.Prelude.{◌≡◌, ℕ, ◌+◌, ◌≤◌, nat_lt, min, Bool, true, false, List, [], ◌∷◌, ◌++◌, length, take, Option, option_map, if◌then◌else◌}
+use Rattle.std.specs.Prelude.{◌≡◌, ℕ, ◌+◌, ◌≤◌, nat_lt, min, Bool, true, false, List, [], ◌∷◌, ◌++◌, length, take, if◌then◌else◌}
 use Rattle.page_text.specs.Page.{Page}
 use Rattle.page_pool.specs.Pool.{Pool, Puts}
 use Rattle.snpp_entry.specs.declared.answers.SnppAnswer.{SnppAnswer}
 use Rattle.snpp_entry.specs.declared.answers.SnppAnswer.TheVariants.{Nothing, Ok, Bye, TooLong, Command, Twice, Missing, Pager, Text, Room}
 use Rattle.snpp_entry.specs.declared.report.SnppReport.{SnppReport}
-use Rattle.snpp_entry.specs.Lines.{Cut, cut}
+use Rattle.snpp_entry.specs.Lines.{cut}
 use Rattle.snpp_entry.specs.Rows.{Directory, Pending, Outcome}
 use Rattle.snpp_entry.specs.Reports.{report_of}
-use Rattle.snpp_entry.specs.Session.{Course, Session, session, start, tell, decide, course_after, has_bye, told_of}
+use Rattle.snpp_entry.specs.Session.{Course, session, start, tell, decide, course_after, has_bye}
 
 -- what an Snpp holds: what is pending, the first characters after the last LF and how many there are, how many characters came, the
 -- report, and whether the session is over

@@ -1,8 +1,6 @@
 -- What the fields of an Snpp stand for.
-use Rattle.std.specs.Prelude.{◌≤◌, option_map}
-use Rattle.snpp_entry.specs.declared.pending.Held.{Held}
+use Rattle.std.specs.Prelude.{◌≤◌}
 use Rattle.snpp_entry.specs.declared.snpp.Snpp.TheInside.{Inside}
-use Rattle.snpp_entry.specs.Rows.{Pending}
 use Rattle.snpp_entry.specs.Seen.{pending_of}
 use Rattle.snpp_entry.specs.Desk.{Desk}
 

@@ -1,5 +1,5 @@
 -- Characters, the lines of a list of them, and the verb and the argument of a line.
-use Rattle.std.specs.Prelude.{ℕ, ◌%◌, ◌==◌, List, [], ◌∷◌, ◌++◌, cond, if◌then◌else◌, Bool}
+use Rattle.std.specs.Prelude.{ℕ, ◌%◌, ◌==◌, List, [], ◌∷◌, ◌++◌, flat_map, if◌then◌else◌, ◌≢◌, All}
 
 -- line feed
 abbrev pub lf : ℕ
@@ -54,3 +54,11 @@ verb (c ∷ x) = if c == space then [] else c ∷ verb x
 abbrev pub argument : List ℕ → List ℕ
 argument [] = []
 argument (c ∷ x) = if c == space then x else argument x
+
+-- the pieces, each with an LF behind it, and the rest
+abbrev pub joined : Cut → List ℕ
+joined k = flat_map (λ piece. piece ++ lf ∷ []) k.pieces ++ k.rest
+
+-- the character isn't in the list
+abbrev pub HasNo : ℕ → List ℕ → Type 0
+HasNo c x = All (λ d. d ≢ c) x

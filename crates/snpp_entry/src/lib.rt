@@ -4,10 +4,12 @@
 //! - `report`: the counts of a session.
 //! - `verbs`: the verbs of the commands; `words`: the verb and the argument of a line.
 //! - `pending`: what is pending, and how a line is answered.
+//! - `laws`: what the definitions say, whatever the characters.
 //! - `snpp`: the session itself.
 #![tactic(auto)]
 
 pub mod answers;
+pub mod laws;
 mod pending;
 pub mod report;
 pub mod snpp;

@@ -125,7 +125,12 @@ fn send(pending: &mut Held, settings: &Settings, pool: &mut Pool) -> (SnppAnswer
 }
 
 /// Answers a line: the answer, and how many pages were queued.
-fn answer(pending: &mut Held, line: &[u8], settings: &Settings, pool: &mut Pool) -> (SnppAnswer, u32)
+fn answer(
+    pending: &mut Held,
+    line: &[u8],
+    settings: &Settings,
+    pool: &mut Pool,
+) -> (SnppAnswer, u32)
     ensures { IsDone (outcome (directory_of settings.now) pool.old.spare (pending_of pending.old) line.now) result.0 result.1 (pending_of pending.new) pool.old pool.new }
 {
     if line.len() > LONGEST_LINE {

@@ -9,13 +9,7 @@ pub(crate) fn line_of(piece: &[u8]) -> &[u8]
 {
     match piece.split_last() {
         None => piece,
-        Some((last, front)) => {
-            if *last == b'\r' {
-                front
-            } else {
-                piece
-            }
-        }
+        Some((last, front)) => { if *last == b'\r' { front } else { piece } }
     }
 }
 

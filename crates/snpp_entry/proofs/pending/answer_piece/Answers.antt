@@ -1,4 +1,4 @@
-use Rattle.std.proofs.Common.{◌≡◌, refl, sym, ◌∙◌, ap, subst, ◌≤◌, ◌<◌, arith, ℕ, List}
+use Rattle.std.proofs.Common.{refl, sym, ◌∙◌, ap, subst, arith, ℕ, List}
 use Rattle.snpp_entry.specs.declared.answers.SnppAnswer.TheVariants.{Command}
 use Rattle.snpp_entry.specs.Lines.{line_of}
 use Rattle.snpp_entry.specs.Rows.{outcome, directory_of, Outcome}

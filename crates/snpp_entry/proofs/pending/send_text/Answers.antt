@@ -1,4 +1,4 @@
-use Rattle.std.proofs.Common.{refl, sym, ◌∙◌}
+use Rattle.std.proofs.Common.{refl}
 use Rattle.snpp_entry.proofs.Outcomes.{misfit_done, full_done, put_done}
 use Rattle.snpp_entry.proofs.pending.send_text.Goals as goal
 

@@ -1,4 +1,4 @@
-use Rattle.std.proofs.Common.{◌≡◌, refl, sym, ap, ◌∙◌, cond, ◌++◌, ◌∷◌, [], true, false, ◌==◌, arith}
+use Rattle.std.proofs.Common.{◌≡◌, sym, ap, ◌∙◌, cond, ◌++◌, ◌∷◌, [], true, false, ◌==◌, arith}
 use Rattle.std.proofs.lemmas.Bool.Decides.{nat_tests}
 use Rattle.snpp_entry.specs.Lines.{line_of}
 use Rattle.snpp_entry.proofs.Pieces.{line_of-push}

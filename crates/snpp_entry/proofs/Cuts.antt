@@ -1,0 +1,58 @@
+-- The cut of a list is a cut of it.
+use Rattle.std.proofs.Common.{◌≡◌, ◌≢◌, ℕ, ◌==◌, cond, Bool, true, false, List, [], ◌∷◌, ◌++◌, refl, ap, sym, ◌∙◌, append_assoc, append-nil, arith}
+use Rattle.std.specs.Prelude.{All}
+use Rattle.std.specs.List.{flat_map}
+use Rattle.std.proofs.lemmas.Bool.{eqb-true}
+use Rattle.std.proofs.lemmas.Bool.Decides.{nat_tests}
+use Rattle.std.proofs.lemmas.Grind.{flat_map-append}
+use Rattle.std.proofs.lemmas.List.Elements.{All-nil, All-cons, All-append}
+use Rattle.snpp_entry.specs.Lines.{Cut, cut, cut_on, with_char, uncut, lf, joined, HasNo}
+
+-- one character more
+joined_more : (k : Cut) (c : ℕ) → joined (with_char k c) ≡ joined k ++ c ∷ []
+joined_more k c = by_char (c == lf) refl
+  where
+    by_char : (b : Bool) → (c == lf) ≡ b → joined (cond b (let n : Cut = record { pieces = k.pieces ++ k.rest ∷ []; rest = [] } in n) (record { pieces = k.pieces; rest = k.rest ++ c ∷ [] })) ≡ joined k ++ c ∷ []
+    by_char true h =
+        append-nil _ ∙ flat_map-append (λ (piece : List ℕ). piece ++ lf ∷ []) k.pieces (k.rest ∷ [])
+        ∙ ap (λ z. flat_map (λ (piece : List ℕ). piece ++ lf ∷ []) k.pieces ++ z) (append-nil (k.rest ++ lf ∷ []))
+        ∙ sym (append_assoc (flat_map (λ (piece : List ℕ). piece ++ lf ∷ []) k.pieces) k.rest (lf ∷ []))
+        ∙ ap (λ d. joined k ++ d ∷ []) (sym (eqb-true c lf h))
+    by_char false h = sym (append_assoc (flat_map (λ (piece : List ℕ). piece ++ lf ∷ []) k.pieces) k.rest (c ∷ []))
+
+-- further characters
+joined_on : (k : Cut) (x : List ℕ) → joined (cut_on k x) ≡ joined k ++ x
+joined_on k [] = sym (append-nil (joined k))
+joined_on k (c ∷ x) = joined_on (with_char k c) x ∙ ap (λ z. z ++ x) (joined_more k c) ∙ append_assoc (joined k) (c ∷ []) x
+
+-- the pieces and the rest are the characters
+pub joined_cut : (x : List ℕ) → joined (cut x) ≡ x
+joined_cut x = joined_on uncut x
+
+-- no piece has an LF, and the rest has none
+pub record IsClean (k : Cut) : Type 0 where
+  pub pieces : All (HasNo lf) k.pieces
+  pub rest : HasNo lf k.rest
+
+-- one character more
+clean_more : (k : Cut) (c : ℕ) → IsClean k → IsClean (with_char k c)
+clean_more k c h = by_char (c == lf) refl
+  where
+    by_char : (b : Bool) → (c == lf) ≡ b → IsClean (cond b (let n : Cut = record { pieces = k.pieces ++ k.rest ∷ []; rest = [] } in n) (record { pieces = k.pieces; rest = k.rest ++ c ∷ [] }))
+    by_char true e = record {
+      pieces = All-append (HasNo lf) k.pieces (k.rest ∷ []) h.pieces (All-cons (HasNo lf) k.rest [] h.rest (All-nil (HasNo lf)));
+      rest = All-nil (λ d. d ≢ lf);
+    }
+    by_char false e = record {
+      pieces = h.pieces;
+      rest = All-append (λ d. d ≢ lf) k.rest (c ∷ []) h.rest (All-cons (λ d. d ≢ lf) c [] (grind (arith, nat_tests, e)) (All-nil (λ d. d ≢ lf)));
+    }
+
+-- further characters
+clean_on : (k : Cut) (x : List ℕ) → IsClean k → IsClean (cut_on k x)
+clean_on k [] h = h
+clean_on k (c ∷ x) h = clean_on (with_char k c) x (clean_more k c h)
+
+-- a list
+pub clean_cut : (x : List ℕ) → IsClean (cut x)
+clean_cut x = clean_on uncut x (record { pieces = All-nil (HasNo lf); rest = All-nil (λ d. d ≢ lf) })
