@@ -5,7 +5,7 @@ use Rattle.std.specs.List.{flat_map}
 use Rattle.std.proofs.lemmas.Bool.{eqb-true}
 use Rattle.std.proofs.lemmas.Bool.Decides.{nat_tests}
 use Rattle.std.proofs.lemmas.Grind.{flat_map-append}
-use Rattle.std.proofs.lemmas.List.Elements.{All-nil, All-cons, All-append}
+use Rattle.std.proofs.lemmas.List.Elements.{All-nil, All-cons, All-append, All-head, All-tail}
 use Rattle.snpp_entry.specs.Lines.{Cut, cut, cut_on, with_char, uncut, lf, joined, HasNo}
 
 -- one character more
@@ -56,3 +56,29 @@ clean_on k (c ∷ x) h = clean_on (with_char k c) x (clean_more k c h)
 -- a list
 pub clean_cut : (x : List ℕ) → IsClean (cut x)
 clean_cut x = clean_on uncut x (record { pieces = All-nil (HasNo lf); rest = All-nil (λ d. d ≢ lf) })
+
+-- characters without an LF go to the rest
+pass : (k : Cut) (p y : List ℕ) → HasNo lf p → cut_on k (p ++ y) ≡ cut_on (record { pieces = k.pieces; rest = k.rest ++ p }) y
+pass k [] y h = ap (λ (r : List ℕ). cut_on (record { pieces = k.pieces; rest = r }) y) (sym (append-nil k.rest))
+pass k (c ∷ p) y h =
+    let t : (c == lf) ≡ false = (let q = All-head (λ d. d ≢ lf) c p h in grind (arith, nat_tests)) in
+    ap (λ b. cut_on (cond b (let n : Cut = record { pieces = k.pieces ++ k.rest ∷ []; rest = [] } in n) (record { pieces = k.pieces; rest = k.rest ++ c ∷ [] })) (p ++ y)) t
+    ∙ pass (record { pieces = k.pieces; rest = k.rest ++ c ∷ [] }) p y (All-tail (λ d. d ≢ lf) c p h)
+    ∙ ap (λ (r : List ℕ). cut_on (record { pieces = k.pieces; rest = r }) y) (append_assoc k.rest (c ∷ []) p)
+
+-- pieces without an LF are read back
+through : (ps : List (List ℕ)) (r : List ℕ) (done : List (List ℕ)) → All (HasNo lf) ps → HasNo lf r
+    → cut_on (record { pieces = done; rest = [] }) (flat_map (λ (piece : List ℕ). piece ++ lf ∷ []) ps ++ r) ≡ record { pieces = done ++ ps; rest = r }
+through [] r done h k =
+    ap (cut_on (record { pieces = done; rest = [] })) (sym (append-nil r)) ∙ pass (record { pieces = done; rest = [] }) r [] k
+    ∙ ap (λ (z : List (List ℕ)). record { pieces = z; rest = r }) (sym (append-nil done))
+through (p ∷ ps) r done h k =
+    let more = flat_map (λ (piece : List ℕ). piece ++ lf ∷ []) ps ++ r in
+    ap (cut_on (record { pieces = done; rest = [] })) (append_assoc (p ++ lf ∷ []) (flat_map (λ (piece : List ℕ). piece ++ lf ∷ []) ps) r ∙ append_assoc p (lf ∷ []) more)
+    ∙ pass (record { pieces = done; rest = [] }) p (lf ∷ more) (All-head (HasNo lf) p ps h)
+    ∙ through ps r (done ++ p ∷ []) (All-tail (HasNo lf) p ps h) k
+    ∙ ap (λ (z : List (List ℕ)). record { pieces = z; rest = r }) (append_assoc done (p ∷ []) ps)
+
+-- a list has one cut
+pub one_cut : (k : Cut) → All (HasNo lf) k.pieces → HasNo lf k.rest → cut (joined k) ≡ k
+one_cut k h e = through k.pieces k.rest [] h e

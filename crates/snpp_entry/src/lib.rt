@@ -19,3 +19,6 @@ mod words;
 pub use answers::{SnppAnswer, greeting, reply};
 pub use report::SnppReport;
 pub use snpp::Snpp;
+
+#[cfg(test)]
+mod tests;

@@ -1,4 +1,4 @@
-use Rattle.snpp_entry.proofs.Cuts.{joined_cut, clean_cut}
+use Rattle.snpp_entry.proofs.Cuts.{joined_cut, clean_cut, one_cut}
 use Rattle.snpp_entry.proofs.laws.cuts.Goals as goal
 
 pub returns-clause-joined : goal.returns-clause-joined
@@ -9,3 +9,6 @@ returns-clause-pieces c x = (clean_cut x).pieces
 
 pub returns-clause-rest : goal.returns-clause-rest
 returns-clause-rest c x = (clean_cut x).rest
+
+pub returns-clause-only : goal.returns-clause-only
+returns-clause-only c k h e = one_cut k h e
