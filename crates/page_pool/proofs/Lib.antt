@@ -13,3 +13,4 @@ pub mod Lists
 pub mod Sounds
 pub mod Peers
 pub mod Laws
+pub mod Gains

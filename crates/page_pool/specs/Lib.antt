@@ -3,3 +3,4 @@ pub mod Chain
 pub mod Layout
 pub mod Pool
 pub mod Region
+pub mod Gains

@@ -5,3 +5,4 @@ pub mod Judged
 pub mod RunTogether
 mod Rows
 pub mod Texts
+pub mod FitTest

@@ -5,3 +5,4 @@ pub mod Groups
 pub mod Line
 pub mod Page
 pub mod Texts
+pub mod FitTest

@@ -10,12 +10,14 @@ use Rattle.snpp_entry.specs.declared.answers.SnppAnswer.{SnppAnswer}
 use Rattle.snpp_entry.specs.declared.answers.SnppAnswer.TheVariants.{Nothing, Ok, Bye, TooLong, Command, Twice, Missing, Pager, Text, Room}
 use Rattle.snpp_entry.specs.declared.report.SnppReport.{SnppReport}
 use Rattle.snpp_entry.specs.Lines.{Cut, cut, line_of}
-use Rattle.snpp_entry.specs.Rows.{Directory, Pending, Outcome, outcome}
+use Rattle.subscribers.specs.Directory.{Directory}
+use Rattle.snpp_entry.specs.Rows.{Pending, Outcome, outcome}
 use Rattle.snpp_entry.specs.Reports.{report_of, added, is_refusal}
 use Rattle.snpp_entry.specs.Session.{Course, Session, session, start, decide, course_after, is_bye, tell, has_bye, answers_of, pages_of}
 use Rattle.snpp_entry.specs.Desk.{Desk, course_at, AreKept, push_within, count_within, IsOpenAt, IsOver, StandsAt, Stands, HearsOn, IsDone, said}
 use Rattle.snpp_entry.proofs.Pieces.{kept_more, cut-lf, cut-other}
-use Rattle.snpp_entry.proofs.Outcomes.{gains_left, usual}
+use Rattle.page_pool.proofs.Gains.{gains_left}
+use Rattle.snpp_entry.proofs.Outcomes.{usual}
 use Rattle.snpp_entry.proofs.Sessions.{tell-append_open, course_at-append, has_bye-append, sum_up, by_length, short_session, over_by_bye, over_by_length, full_session}
 
 -- how many of two lists

@@ -1,7 +1,6 @@
 -- Outcomes, row by row.
-use Rattle.std.proofs.Common.{◌≡◌, ℕ, ◌-◌, ◌*◌, ◌<◌, ◌≤◌, cond, Bool, true, false, List, [], ◌∷◌, length, refl, ap, sym, subst, arith, Option, Some, None, nat_lt}
+use Rattle.std.proofs.Common.{◌≡◌, ℕ, ◌*◌, ◌<◌, ◌≤◌, cond, Bool, true, false, List, [], ◌∷◌, length, refl, ap, sym, subst, arith, Option, Some, None, nat_lt}
 use Rattle.std.proofs.lemmas.Bool.Decides.{nat_tests}
-use Rattle.page_text.specs.Page.{Page}
 use Rattle.page_text.specs.Fits.{Fits}
 use Rattle.page_pool.specs.Cells.{cells_for}
 use Rattle.page_pool.specs.Pool.{Pool, Puts, page}
@@ -9,12 +8,12 @@ use Rattle.subscribers.specs.declared.subscriber.Subscriber.{Subscriber}
 use Rattle.snpp_entry.specs.declared.answers.SnppAnswer.TheVariants.{Ok, Command, Text, Room}
 use Rattle.snpp_entry.specs.declared.verbs.Verb.{Verb}
 use Rattle.snpp_entry.specs.declared.verbs.Verb.TheVariants.{Page as PAGE, Mess as MESS, Rese as RESE, Send as SEND, Quit as QUIT, Other as OTHER}
-use Rattle.snpp_entry.specs.Texts.{fits}
+use Rattle.page_text.specs.FitTest.{fits}
 use Rattle.snpp_entry.specs.Lines.{verb, argument}
-use Rattle.snpp_entry.specs.Rows.{Directory, Pending, Outcome, nothing, plainly, with_id, page_row, mess_row, send_text, text_for, send_by, send_to, send_row, alone, by_verb, verb_of, outcome, pages_to, capcodes}
-use Rattle.snpp_entry.specs.Session.{cells_of_all}
-use Rattle.snpp_entry.specs.Desk.{Gains, IsDone, said}
-use Rattle.snpp_entry.proofs.Texts.{fits_from_test, test_from_fits}
+use Rattle.subscribers.specs.Directory.{Directory}
+use Rattle.snpp_entry.specs.Rows.{Pending, Outcome, nothing, plainly, with_id, page_row, mess_row, send_text, text_for, send_by, send_to, send_row, alone, by_verb, verb_of, outcome, pages_to, capcodes}
+use Rattle.snpp_entry.specs.Desk.{IsDone, said}
+use Rattle.page_text.proofs.FitTest.{fits_from_test, test_from_fits}
 
 -- a text that doesn't fit
 pub misfit_done : (s : Subscriber) (text : List ℕ) (pool : Pool) → ¬ Fits s.function text → IsDone (send_text pool.spare s text) Text 0 nothing pool pool
@@ -46,11 +45,6 @@ put_done s text before after h put =
     let n : cells_for (length text) * 1 ≤ before.spare = omega (arith, e) in
     let t : nat_lt before.spare (cells_for (length text) * 1) ≡ false = grind (arith, nat_tests) in
     subst (λ o. IsDone o Ok 1 nothing before after) (sym (fitting s text before.spare false h t)) (record { answer_is = refl; count_is = refl; pending_is = refl; pool = (after, put, refl) })
-
--- the cells that are left
-pub gains_left : (before after : Pool) (pages : List Page) → Gains before after pages → after.spare ≡ before.spare - cells_of_all pages
-gains_left before after [] h = let q = ap (λ (w : Pool). w.spare) h in omega (arith, q)
-gains_left before after (p ∷ ps) h = let q = h.1.spare in let r = gains_left h.0 after ps h.2 in omega (arith, q, r)
 
 -- a line that is too long
 pub long_outcome : (directory : Directory) (spare : ℕ) (p : Pending) (line : List ℕ) → 1100 < length line → outcome directory spare p line ≡ plainly Command p

@@ -8,7 +8,8 @@ use Rattle.std.proofs.Math.Seq.{take-append-add}
 use Rattle.snpp_entry.specs.declared.answers.SnppAnswer.{SnppAnswer}
 use Rattle.snpp_entry.specs.declared.answers.SnppAnswer.TheVariants.{TooLong}
 use Rattle.snpp_entry.specs.Lines.{Cut, cut, uncut}
-use Rattle.snpp_entry.specs.Rows.{Directory, Outcome}
+use Rattle.subscribers.specs.Directory.{Directory}
+use Rattle.snpp_entry.specs.Rows.{Outcome}
 use Rattle.snpp_entry.specs.Session.{Course, Session, session, session_of, start, decide, course_after, is_bye, tell, has_bye, answers_of, pages_of, is_too_long, longest, told_of, Continues}
 use Rattle.snpp_entry.specs.Desk.{course_at, IsOver}
 use Rattle.snpp_entry.proofs.Pieces.{cut_on-append, grown}

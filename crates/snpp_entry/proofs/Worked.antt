@@ -8,7 +8,7 @@ use Rattle.codeword.specs.declared.functions.Function.TheVariants.{Numeric, Tone
 use Rattle.subscribers.specs.Parts.{Ids}
 use Rattle.subscribers.specs.declared.subscriber.Subscriber.{Subscriber}
 use Rattle.snpp_entry.specs.declared.answers.SnppAnswer.TheVariants.{Ok, Bye, Command, Twice, Missing, Pager, Text, Room, TooLong}
-use Rattle.snpp_entry.specs.Rows.{Directory}
+use Rattle.subscribers.specs.Directory.{Directory}
 use Rattle.snpp_entry.specs.Replies.{replies, the_greeting, with_end}
 use Rattle.snpp_entry.specs.Reports.{report_of}
 use Rattle.snpp_entry.specs.Session.{session, session_of}

@@ -1,12 +1,14 @@
 -- What an Snpp holds, and the characters that it stands for.
 use Rattle.std.specs.Prelude.{◌≡◌, ℕ, ◌+◌, ◌≤◌, nat_lt, min, Bool, true, false, List, [], ◌∷◌, ◌++◌, length, take, if◌then◌else◌}
 use Rattle.page_text.specs.Page.{Page}
-use Rattle.page_pool.specs.Pool.{Pool, Puts}
+use Rattle.page_pool.specs.Pool.{Pool}
+use Rattle.page_pool.specs.Gains.{Gains}
 use Rattle.snpp_entry.specs.declared.answers.SnppAnswer.{SnppAnswer}
 use Rattle.snpp_entry.specs.declared.answers.SnppAnswer.TheVariants.{Nothing, Ok, Bye, TooLong, Command, Twice, Missing, Pager, Text, Room}
 use Rattle.snpp_entry.specs.declared.report.SnppReport.{SnppReport}
 use Rattle.snpp_entry.specs.Lines.{cut}
-use Rattle.snpp_entry.specs.Rows.{Directory, Pending, Outcome}
+use Rattle.subscribers.specs.Directory.{Directory}
+use Rattle.snpp_entry.specs.Rows.{Pending, Outcome}
 use Rattle.snpp_entry.specs.Reports.{report_of}
 use Rattle.snpp_entry.specs.Session.{Course, session, start, tell, decide, course_after, has_bye}
 
@@ -59,11 +61,6 @@ StandsAt true directory spare t x left = IsOver directory spare x
 pub record Stands (directory : Directory) (spare : ℕ) (t : Desk) (x : List ℕ) (left : ℕ) : Type 0 where
   pub at_end : StandsAt t.over directory spare t x left
   pub report_is : t.report ≡ report_of (session directory spare x).answers (session directory spare x).pages
-
--- the pool gained these pages at its end, in their order
-abbrev pub Gains : Pool → Pool → List Page → Type 0
-Gains old new [] = new ≡ old
-Gains old new (page ∷ pages) = (mid : Pool) × Puts old mid page × Gains mid new pages
 
 -- what is said: nothing for Nothing
 abbrev pub said : SnppAnswer → List SnppAnswer

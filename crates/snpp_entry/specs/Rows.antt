@@ -1,27 +1,18 @@
 -- How a line is answered: the rows of the table of lines, the first that applies.
 use Rattle.std.specs.Prelude.{ℕ, ◌*◌, nat_lt, Bool, ◌||◌, List, [], ◌∷◌, map, length, codes, Option, Some, None, if◌then◌else◌}
-use Rattle.std.specs.FinMap.{get}
 use Rattle.std.specs.Str.{str_eq_ignore_ascii_case}
 use Rattle.codeword.specs.declared.functions.Function.{Function}
 use Rattle.codeword.specs.declared.functions.Function.TheVariants.{Numeric, Tone1, Tone2, Alpha}
 use Rattle.page_text.specs.Page.{Page}
 use Rattle.page_pool.specs.Cells.{cells_for}
 use Rattle.subscribers.specs.declared.subscriber.Subscriber.{Subscriber}
-use Rattle.subscribers.specs.Parts.{Parts}
+use Rattle.subscribers.specs.Directory.{Directory}
 use Rattle.snpp_entry.specs.declared.answers.SnppAnswer.{SnppAnswer}
 use Rattle.snpp_entry.specs.declared.answers.SnppAnswer.TheVariants.{Ok, Bye, Command, Twice, Missing, Pager, Text, Room}
 use Rattle.snpp_entry.specs.declared.verbs.Verb.{Verb}
 use Rattle.snpp_entry.specs.declared.verbs.Verb.TheVariants.{Page as PAGE, Mess as MESS, Rese as RESE, Send as SEND, Quit as QUIT, Other as OTHER}
-use Rattle.snpp_entry.specs.Texts.{fits}
+use Rattle.page_text.specs.FitTest.{fits}
 use Rattle.snpp_entry.specs.Lines.{verb, argument}
-
--- the subscriber of an id, or none
-abbrev pub Directory : Type 0
-Directory = List ℕ → Option Subscriber
-
--- the directory of settings
-abbrev pub directory_of : Parts → Directory
-directory_of settings id = get settings.ids id
 
 -- the capcodes of an id, in their order: one
 abbrev pub capcodes : Subscriber → List ℕ

@@ -1,11 +1,12 @@
 -- A whole session.
-use Rattle.std.specs.Prelude.{◌≡◌, ℕ, ◌+◌, ◌-◌, nat_le, Bool, true, false, ◌||◌, ◌&&◌, not, if◌then◌else◌, List, [], ◌∷◌, ◌++◌, length, take, map, flat_map}
+use Rattle.std.specs.Prelude.{◌≡◌, ℕ, ◌-◌, nat_le, Bool, true, false, ◌||◌, ◌&&◌, not, if◌then◌else◌, List, [], ◌∷◌, ◌++◌, length, take, map, flat_map}
 use Rattle.page_text.specs.Page.{Page}
-use Rattle.page_pool.specs.Cells.{cells_of}
+use Rattle.page_pool.specs.Gains.{cells_of_all}
 use Rattle.snpp_entry.specs.declared.answers.SnppAnswer.{SnppAnswer}
 use Rattle.snpp_entry.specs.declared.answers.SnppAnswer.TheVariants.{Nothing, Ok, Bye, TooLong, Command, Twice, Missing, Pager, Text, Room}
 use Rattle.snpp_entry.specs.Lines.{cut, line_of}
-use Rattle.snpp_entry.specs.Rows.{Directory, Pending, nothing, Outcome, outcome}
+use Rattle.subscribers.specs.Directory.{Directory}
+use Rattle.snpp_entry.specs.Rows.{Pending, nothing, Outcome, outcome}
 
 -- the last character of a session that no line ends
 abbrev pub longest : ℕ
@@ -19,11 +20,6 @@ pub record Course : Type 0 where
 -- before the first line
 abbrev pub start : ℕ → Course
 start spare = record { pending = nothing; spare = spare }
-
--- the cells of pages
-abbrev pub cells_of_all : List Page → ℕ
-cells_of_all [] = 0
-cells_of_all (p ∷ ps) = cells_of p + cells_of_all ps
 
 -- what comes of a piece
 abbrev pub decide : Directory → Course → List ℕ → Outcome

@@ -2,7 +2,7 @@
 
 ghost use Rattle.std.specs.Prelude.{◌≡◌, ℕ, ◌++◌, List, All};
 ghost use Rattle.snpp_entry.specs.Lines.{Cut, cut, lf, joined, HasNo};
-ghost use Rattle.snpp_entry.specs.Rows.{Directory};
+ghost use Rattle.subscribers.specs.Directory.{Directory};
 ghost use Rattle.snpp_entry.specs.Session.{Continues, session};
 
 /// The pieces, each with an LF behind it, and the rest are the characters, and none of them has an LF. No other cut is so.

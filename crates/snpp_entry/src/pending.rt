@@ -2,7 +2,8 @@
 
 ghost use Rattle.std.specs.Prelude.{◌≡◌, ◌≤◌, List, ℕ, length, option_map, take, min};
 ghost use Rattle.snpp_entry.specs.Lines.{line_of};
-ghost use Rattle.snpp_entry.specs.Rows.{alone, directory_of, mess_row, nothing, outcome, page_row, plainly, send_row, send_text, text_for};
+ghost use Rattle.subscribers.specs.Directory.{directory_of};
+ghost use Rattle.snpp_entry.specs.Rows.{alone, mess_row, nothing, outcome, page_row, plainly, send_row, send_text, text_for};
 ghost use Rattle.snpp_entry.specs.Seen.{pending_of};
 ghost use Rattle.snpp_entry.specs.Desk.{AreKept, IsDone};
 

@@ -9,7 +9,7 @@
 
 ghost use Rattle.std.specs.Prelude.{◌≡◌, ℕ, List, []};
 ghost use Rattle.snpp_entry.specs.Lines.{char_of};
-ghost use Rattle.snpp_entry.specs.Rows.{Directory, directory_of};
+ghost use Rattle.subscribers.specs.Directory.{Directory, directory_of};
 ghost use Rattle.snpp_entry.specs.Reports.{report_of};
 ghost use Rattle.snpp_entry.specs.Session.{is_bye, session};
 ghost use Rattle.snpp_entry.specs.Desk.{Stands, HearsOn, count_within, push_within};

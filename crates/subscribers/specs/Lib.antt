@@ -3,3 +3,4 @@ pub mod Seen
 pub mod Parts
 pub mod Entries
 pub mod Settings
+pub mod Directory

@@ -1,7 +1,8 @@
 use Rattle.std.proofs.Common.{refl, sym, ◌∙◌, ap, subst, arith, ℕ, List}
 use Rattle.snpp_entry.specs.declared.answers.SnppAnswer.TheVariants.{Command}
 use Rattle.snpp_entry.specs.Lines.{line_of}
-use Rattle.snpp_entry.specs.Rows.{outcome, directory_of, Outcome}
+use Rattle.subscribers.specs.Directory.{directory_of}
+use Rattle.snpp_entry.specs.Rows.{outcome, Outcome}
 use Rattle.snpp_entry.specs.Seen.{pending_of}
 use Rattle.snpp_entry.specs.Desk.{IsDone}
 use Rattle.snpp_entry.proofs.Pieces.{kept_whole, long_line}

@@ -1,7 +1,7 @@
 use Rattle.std.proofs.Common.{◌≡◌, ◌<◌, ◌==◌, true, false, refl, ap, sym, subst, ◌∙◌, arith, List, ℕ}
 use Rattle.std.proofs.lemmas.Bool.Decides.{nat_tests}
 use Rattle.snpp_entry.specs.Lines.{char_of}
-use Rattle.snpp_entry.specs.Rows.{directory_of}
+use Rattle.subscribers.specs.Directory.{directory_of}
 use Rattle.snpp_entry.specs.Desk.{Desk, Stands, AreKept}
 use Rattle.snpp_entry.specs.DeskView.{desk_of}
 use Rattle.snpp_entry.proofs.Feeds.{closed_on, full_on, quiet_on, line_on}

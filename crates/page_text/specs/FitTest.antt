@@ -1,4 +1,4 @@
--- Which texts fit a function, as a test that computes. The same test stands in tap_terminal.
+-- Which texts fit a function, as a test that computes.
 use Rattle.std.specs.Prelude.{ℕ, ◌==◌, nat_eq, nat_le, Bool, false, ◌&&◌, ◌||◌, not, List, [], ◌∷◌, length}
 use Rattle.std.specs.List.{list_all, list_any}
 use Rattle.codeword.specs.declared.functions.Function.{Function}

@@ -12,7 +12,7 @@ use Rattle.codeword.specs.declared.functions.Function.{Function}
 use Rattle.codeword.specs.declared.functions.Function.TheVariants.{Numeric, Tone1, Tone2, Alpha}
 use Rattle.page_text.specs.Groups.{numeric_characters}
 use Rattle.page_text.specs.Fits.{IsAlpha, Fits}
-use Rattle.snpp_entry.specs.Texts.{is_numeric, is_alpha, ends_in_space, fits}
+use Rattle.page_text.specs.FitTest.{is_numeric, is_alpha, ends_in_space, fits}
 
 -- two tests hold where both do
 both_true : (a b : Bool) → a ≡ true → b ≡ true → (a && b) ≡ true
