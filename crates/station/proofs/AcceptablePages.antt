@@ -14,11 +14,11 @@ use Rattle.tap_block.specs.Fields.{parts_of}
 use Rattle.tap_block.specs.Reading.{Entry, empty_line, logon, wrong_line, a_block, a_bye, items_of}
 use Rattle.tap_block.specs.declared.ends.End.{End}
 use Rattle.tap_block.specs.declared.ends.End.TheVariants.{Etx, Etb, Us}
-use Rattle.tap_terminal.proofs.Texts.{fits_from_test}
-use Rattle.tap_terminal.specs.Desk.{directory_of}
+use Rattle.page_text.proofs.FitTest.{fits_from_test}
 use Rattle.tap_terminal.specs.Session.{Course, Decided, Session, Told, decide, is_end, pages_of, start, tell}
-use Rattle.tap_terminal.specs.Texts.{fits}
-use Rattle.tap_terminal.specs.Verdict.{Directory, Verdict, by_end, fields_for, refused, room_for, text_for, values_of, verdict}
+use Rattle.page_text.specs.FitTest.{fits}
+use Rattle.subscribers.specs.Directory.{Directory, directory_of}
+use Rattle.tap_terminal.specs.Verdict.{Verdict, by_end, fields_for, refused, room_for, text_for, values_of, verdict}
 use Rattle.tap_terminal.specs.declared.answers.Answer.TheVariants.{Ack, Nak}
 use Rattle.tap_terminal.specs.declared.answers.Reason.TheVariants.{Body, Content, Room, Text}
 use Rattle.station.specs.AcceptedPages.{AreAcceptable}

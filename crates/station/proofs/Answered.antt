@@ -10,7 +10,8 @@ use Rattle.tap_terminal.specs.declared.answers.Answer.{Answer}
 use Rattle.tap_terminal.specs.declared.answers.Answer.TheVariants.{Ack, End, Go, Id, Nak, Nothing, Rs}
 use Rattle.tap_terminal.specs.declared.terminal.Stage.{Stage}
 use Rattle.tap_terminal.specs.declared.terminal.Stage.TheVariants.{Open, Ended, Forced}
-use Rattle.tap_terminal.specs.Desk.{Desk, IsOver, StandsAt, directory_of, said, unheard}
+use Rattle.subscribers.specs.Directory.{directory_of}
+use Rattle.tap_terminal.specs.Desk.{Desk, IsOver, StandsAt, said, unheard}
 use Rattle.tap_terminal.specs.Session.{IsSession, Session, is_end, start, tell}
 use Rattle.wires.specs.Causes.{Rose}
 use Rattle.wires.specs.declared.Failed.{Failed}

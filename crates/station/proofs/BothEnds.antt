@@ -9,7 +9,7 @@ use Rattle.page_text.specs.Page.{Page as Accepted}
 use Rattle.tap_terminal.specs.declared.answers.Answer.{Answer}
 use Rattle.tap_terminal.specs.declared.answers.Answer.TheVariants.{Id, Go}
 use Rattle.tap_terminal.specs.Replies.{reply_of, replies}
-use Rattle.tap_terminal.specs.Verdict.{Directory}
+use Rattle.subscribers.specs.Directory.{Directory}
 use Rattle.tap_terminal.specs.Session.{start, tell, answers_of, closing, IsSession}
 use Rattle.tap_entry.specs.Marks.{AreMarks, AreHeard}
 use Rattle.tap_entry.specs.PagesFile.{IsPassword}

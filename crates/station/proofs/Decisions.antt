@@ -16,7 +16,8 @@ use Rattle.tap_terminal.proofs.Fronts.{fronts, session_exists}
 use Rattle.tap_terminal.proofs.Sessions.{too_long}
 use Rattle.tap_terminal.specs.declared.answers.Answer.{Answer}
 use Rattle.tap_terminal.specs.declared.answers.Answer.TheVariants.{Ack, End, Go, Id, Nak, Nothing, Rs}
-use Rattle.tap_terminal.specs.Desk.{Desk, Gains, HearsOn, directory_of, said}
+use Rattle.subscribers.specs.Directory.{directory_of}
+use Rattle.tap_terminal.specs.Desk.{Desk, Gains, HearsOn, said}
 use Rattle.tap_terminal.specs.Replies.{replies, reply_of}
 use Rattle.tap_terminal.specs.Session.{IsSession, Session, Told, answers_of, closing, has_end as told_end, is_end, is_too_long, start, tell}
 use Rattle.wires.specs.Held.{Connection}

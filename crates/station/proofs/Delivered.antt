@@ -6,8 +6,7 @@ use Rattle.page_text.specs.Page.{Page as Accepted, IsAcceptable}
 use Rattle.subscribers.specs.Parts.{Parts}
 use Rattle.subscribers.specs.Settings.{settings_of}
 use Rattle.subscribers.specs.declared.subscriber.Subscriber.{Subscriber}
-use Rattle.tap_terminal.specs.Desk.{directory_of}
-use Rattle.tap_terminal.specs.Verdict.{Directory}
+use Rattle.subscribers.specs.Directory.{Directory, directory_of}
 use Rattle.tap_entry.specs.Client.{Page}
 use Rattle.station.proofs.AcceptablePages.{are_acceptable}
 use Rattle.station.proofs.BothEnds.{both_ends}

@@ -12,9 +12,10 @@ use Rattle.subscribers.specs.declared.subscriber.Subscriber.{Subscriber}
 use Rattle.tap_terminal.specs.declared.answers.Reason.{Reason}
 use Rattle.tap_terminal.specs.declared.answers.Reason.TheVariants.{Unknown, Text, Room}
 use Rattle.tap_terminal.specs.declared.answers.Answer.TheVariants.{Ack}
-use Rattle.tap_terminal.specs.Texts.{fits}
+use Rattle.page_text.specs.FitTest.{fits}
 use Rattle.page_pool.specs.Cells.{cells_for}
-use Rattle.tap_terminal.specs.Verdict.{Directory, Verdict, refused, values_of, room_for, text_for, judge_content}
+use Rattle.subscribers.specs.Directory.{Directory}
+use Rattle.tap_terminal.specs.Verdict.{Verdict, refused, values_of, room_for, text_for, judge_content}
 use Rattle.tap_entry.specs.Client.{Page, IsPage, content}
 
 -- what holds of all is so of parts

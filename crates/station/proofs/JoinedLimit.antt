@@ -6,7 +6,7 @@ use Rattle.page_text.specs.Page.{Page}
 use Rattle.tap_terminal.specs.declared.answers.Answer.{Answer}
 use Rattle.tap_terminal.specs.declared.answers.Answer.TheVariants.{Nothing, Id, Go, Ack, Nak, Rs, End as EndAnswer}
 use Rattle.tap_terminal.specs.Replies.{reply_of, replies}
-use Rattle.tap_terminal.specs.Verdict.{Directory}
+use Rattle.subscribers.specs.Directory.{Directory}
 use Rattle.tap_terminal.specs.Session.{Course, Told, start, decide, tell, answers_of, is_end, closing, is_too_long}
 use Rattle.station.proofs.JoinedSessions.{IsPlayed}
 

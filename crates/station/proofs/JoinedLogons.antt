@@ -7,7 +7,7 @@ use Rattle.tap_block.specs.Reading.{BeforeLogon, AfterLogon, Piece, line, Reads,
 use Rattle.station.proofs.JoinedPieces.{goes_first}
 use Rattle.tap_terminal.specs.declared.answers.Answer.{Answer}
 use Rattle.page_text.specs.Page.{Page as Accepted}
-use Rattle.tap_terminal.specs.Verdict.{Directory}
+use Rattle.subscribers.specs.Directory.{Directory}
 use Rattle.tap_terminal.specs.Session.{start, tell, answers_of, closing}
 use Rattle.tap_entry.specs.Marks.{AreMarks}
 use Rattle.tap_entry.specs.declared.hearing.Mark.{Mark}

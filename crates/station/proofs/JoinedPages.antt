@@ -14,7 +14,8 @@ use Rattle.station.proofs.JoinedPieces.{goes_first}
 use Rattle.station.proofs.JoinedPieces.{block_first}
 use Rattle.tap_terminal.specs.declared.answers.Answer.TheVariants.{Ack}
 use Rattle.page_text.specs.Page.{Page as Accepted}
-use Rattle.tap_terminal.specs.Verdict.{Directory, Verdict, refused, judge_content, by_end, verdict}
+use Rattle.subscribers.specs.Directory.{Directory}
+use Rattle.tap_terminal.specs.Verdict.{Verdict, refused, judge_content, by_end, verdict}
 use Rattle.tap_terminal.specs.Session.{Course, is_end, decided, tell, answers_of, pages_of}
 use Rattle.tap_entry.specs.declared.hearing.Mark.{Mark}
 use Rattle.tap_entry.specs.declared.hearing.Mark.TheVariants.{Ack as AckMark, Rs as RsMark}

@@ -3,7 +3,7 @@ use Rattle.std.proofs.Common.{◌≡◌, ℕ, List, ◌++◌, length, take, ap, 
 use Rattle.tap_block.specs.Reading.{Piece, BeforeLogon, Reads, items_of}
 use Rattle.page_text.specs.Page.{Page}
 use Rattle.tap_terminal.specs.declared.answers.Answer.{Answer}
-use Rattle.tap_terminal.specs.Verdict.{Directory}
+use Rattle.subscribers.specs.Directory.{Directory}
 use Rattle.tap_terminal.specs.Session.{Session, IsSession, start, tell, answers_of, pages_of, closing}
 
 -- the answers and the pages of a session

@@ -8,9 +8,10 @@ use Rattle.tap_block.specs.Reading.{AfterLogon, Piece, line, skipped, lone_eot, 
 use Rattle.subscribers.specs.declared.subscriber.Subscriber.{Subscriber}
 use Rattle.tap_terminal.specs.declared.answers.Reason.TheVariants.{Room, Text, Body, Content}
 use Rattle.tap_terminal.specs.declared.answers.Answer.TheVariants.{Ack}
-use Rattle.tap_terminal.specs.Texts.{fits}
+use Rattle.page_text.specs.FitTest.{fits}
 use Rattle.page_pool.specs.Cells.{cells_for}
-use Rattle.tap_terminal.specs.Verdict.{Directory, Verdict, refused, values_of, room_for, text_for, fields_for, by_end, verdict}
+use Rattle.subscribers.specs.Directory.{Directory}
+use Rattle.tap_terminal.specs.Verdict.{Verdict, refused, values_of, room_for, text_for, fields_for, by_end, verdict}
 use Rattle.tap_terminal.specs.Session.{Course, is_end, decided, tell, answers_of}
 use Rattle.tap_terminal.specs.Replies.{reply_of, replies}
 

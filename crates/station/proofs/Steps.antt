@@ -7,7 +7,8 @@ use Rattle.tap_block.specs.Chars.{characters}
 use Rattle.tap_terminal.proofs.Feeds.{stands_session}
 use Rattle.tap_terminal.specs.declared.answers.Answer.{Answer}
 use Rattle.tap_terminal.specs.declared.answers.Answer.TheVariants.{End, Nothing}
-use Rattle.tap_terminal.specs.Desk.{Desk, Stands, directory_of, said, unheard}
+use Rattle.subscribers.specs.Directory.{directory_of}
+use Rattle.tap_terminal.specs.Desk.{Desk, Stands, said, unheard}
 use Rattle.tap_terminal.specs.Replies.{replies, reply_of}
 use Rattle.tap_terminal.specs.Session.{Session, is_end}
 use Rattle.wires.specs.Held.{Connection}

@@ -7,10 +7,9 @@ use Rattle.receiver.specs.Heard.{with_text, heard}
 use Rattle.subscribers.specs.Parts.{Parts}
 use Rattle.subscribers.specs.Settings.{settings_of}
 use Rattle.subscribers.specs.declared.subscriber.Subscriber.{Subscriber}
-use Rattle.tap_terminal.specs.Desk.{directory_of}
 use Rattle.tap_terminal.specs.Replies.{replies}
 use Rattle.tap_terminal.specs.Session.{Session}
-use Rattle.tap_terminal.specs.Verdict.{Directory}
+use Rattle.subscribers.specs.Directory.{Directory, directory_of}
 use Rattle.tap_entry.specs.Client.{Client, IsPage, Page}
 use Rattle.tap_entry.specs.Marks.{AreHeard}
 use Rattle.tap_entry.specs.PagesFile.{IsPassword}

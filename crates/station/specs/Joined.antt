@@ -7,7 +7,7 @@ use Rattle.tap_terminal.specs.Replies.{replies}
 use Rattle.tap_entry.specs.PagesFile.{IsPassword}
 use Rattle.subscribers.specs.declared.subscriber.Subscriber.{Subscriber}
 use Rattle.page_text.specs.Page.{Page as Accepted}
-use Rattle.tap_terminal.specs.Verdict.{Directory}
+use Rattle.subscribers.specs.Directory.{Directory}
 use Rattle.tap_entry.specs.Marks.{AreHeard}
 use Rattle.tap_entry.specs.declared.hearing.Mark.{Mark}
 use Rattle.tap_entry.specs.declared.outcomes.Outcome.{Outcome}

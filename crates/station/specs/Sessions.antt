@@ -5,7 +5,8 @@ use Rattle.page_pool.specs.Pool.{Pool, cells, pages}
 use Rattle.subscribers.specs.Parts.{Parts}
 use Rattle.tap_block.specs.Chars.{characters}
 use Rattle.tap_terminal.specs.declared.answers.Answer.{Answer}
-use Rattle.tap_terminal.specs.Desk.{Desk, Stands, directory_of}
+use Rattle.subscribers.specs.Directory.{directory_of}
+use Rattle.tap_terminal.specs.Desk.{Desk, Stands}
 use Rattle.tap_terminal.specs.Replies.{replies, reply_of}
 use Rattle.tap_terminal.specs.Session.{IsSession, Session, is_end}
 use Rattle.wires.specs.Causes.{Rose}

@@ -13,7 +13,7 @@ ghost use Rattle.page_pool.specs.Pool.{Pool as Waiting};
 ghost use Rattle.station.specs.Sessions.{Closes, decided, GoesOn, Ran, StandsFor, UnderWay};
 ghost use Rattle.tap_terminal.specs.Desk.{Stands, unheard};
 ghost use Rattle.tap_terminal.specs.Session.{Session};
-ghost use Rattle.tap_terminal.specs.Verdict.{Directory};
+ghost use Rattle.subscribers.specs.Directory.{Directory};
 ghost use Rattle.wires.specs.Line.{Line};
 
 use page_pool::Pool;

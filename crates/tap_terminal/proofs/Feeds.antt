@@ -15,7 +15,7 @@ use Rattle.tap_terminal.specs.declared.report.Report.{Report}
 use Rattle.tap_terminal.specs.declared.terminal.Stage.{Stage}
 use Rattle.tap_terminal.specs.declared.terminal.Stage.TheVariants.{Open, Ended, Forced}
 use Rattle.tap_terminal.specs.Reports.{counter_of, counts, added}
-use Rattle.tap_terminal.specs.Verdict.{Directory}
+use Rattle.subscribers.specs.Directory.{Directory}
 use Rattle.tap_terminal.specs.Session.{Course, Told, Session, start, decide, tell, has_end, has_wrong_end, is_end, is_wrong, answers_of, pages_of, report_of, IsSession}
 use Rattle.tap_terminal.specs.Desk.{Desk, course_at, course_of, sum_up, IsOpenAt, IsOver, StandsAt, Stands, HearsOn, IsJudged, Keeps, said, is_open, is_forced, stage_after}
 use Rattle.tap_terminal.proofs.Reports.{counts-push}

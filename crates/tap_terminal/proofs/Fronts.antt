@@ -6,7 +6,7 @@ use Rattle.std.proofs.lemmas.List.Elements.{filter_map-append}
 use Rattle.tap_block.specs.Brief.{Held, in_line}
 use Rattle.tap_block.specs.Reading.{Entry, BeforeLogon}
 use Rattle.tap_block.proofs.Grows.{stands_nil}
-use Rattle.tap_terminal.specs.Verdict.{Directory}
+use Rattle.subscribers.specs.Directory.{Directory}
 use Rattle.tap_terminal.specs.Session.{Told, Session, Continues, start, tell, has_end, closing, answers_of, pages_of, session_of, IsSession}
 use Rattle.tap_terminal.specs.Desk.{course_at, sum_up}
 use Rattle.tap_terminal.proofs.Sessions.{Extended, extend, session_from, one_session, tell-append_open, tell-append_ended, settled, ended_settled, short_settled, too_long, by_length, take_over}

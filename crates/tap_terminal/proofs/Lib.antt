@@ -1,4 +1,3 @@
-pub mod Texts
 pub mod Parts
 pub mod Reports
 pub mod Sessions

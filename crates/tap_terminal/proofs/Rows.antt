@@ -15,7 +15,7 @@ use Rattle.tap_terminal.specs.declared.answers.Answer.TheVariants.{Id, Go, Ack, 
 use Rattle.tap_terminal.specs.declared.answers.Reason.TheVariants.{Body, Content, Form, Unknown, Text, Room}
 use Rattle.tap_terminal.specs.declared.report.Report.{Report}
 use Rattle.tap_terminal.specs.Replies.{replies}
-use Rattle.tap_terminal.specs.Verdict.{Directory}
+use Rattle.subscribers.specs.Directory.{Directory}
 use Rattle.tap_terminal.specs.Session.{Told, Session, tell, start, session_of}
 
 -- six subscribers

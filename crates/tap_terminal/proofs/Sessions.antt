@@ -11,7 +11,7 @@ use Rattle.tap_block.proofs.Grows.{stands_on, step-password}
 use Rattle.tap_block.proofs.OneReading.{at_most_one}
 use Rattle.tap_terminal.specs.declared.answers.Answer.{Answer}
 use Rattle.tap_terminal.specs.declared.answers.Answer.TheVariants.{End}
-use Rattle.tap_terminal.specs.Verdict.{Directory}
+use Rattle.subscribers.specs.Directory.{Directory}
 use Rattle.tap_terminal.specs.Session.{Course, Told, Session, start, decide, tell, has_end, is_end, is_wrong, has_wrong_end, is_too_long, longest, answers_of, pages_of, report_of, session_of, IsSession}
 use Rattle.tap_terminal.specs.Desk.{course_at, sum_up, IsOver}
 

@@ -18,12 +18,13 @@ use Rattle.tap_terminal.specs.declared.answers.Answer.{Answer}
 use Rattle.tap_terminal.specs.declared.answers.Answer.TheVariants.{Ack, Nak, Rs, End}
 use Rattle.tap_terminal.specs.declared.answers.Reason.TheVariants.{Body, Content, Form, Text, Room}
 use Rattle.tap_terminal.specs.declared.terminal.Stage.TheVariants.{Open, Ended}
-use Rattle.tap_terminal.specs.Texts.{fits}
-use Rattle.tap_terminal.specs.Verdict.{Directory, Verdict, refused, both_values, values_of, fields_for, text_for, room_for, judge_content, by_end, verdict}
+use Rattle.page_text.specs.FitTest.{fits}
+use Rattle.subscribers.specs.Directory.{Directory}
+use Rattle.tap_terminal.specs.Verdict.{Verdict, refused, both_values, values_of, fields_for, text_for, room_for, judge_content, by_end, verdict}
 use Rattle.tap_terminal.specs.Session.{is_end, cells_for_page, Course, decide}
 use Rattle.tap_terminal.specs.Desk.{Desk, Gains, IsDone, IsJudged, said}
 use Rattle.tap_terminal.proofs.Parts.{parts_some, parts_none}
-use Rattle.tap_terminal.proofs.Texts.{fits_from_test, test_from_fits}
+use Rattle.page_text.proofs.FitTest.{fits_from_test, test_from_fits}
 
 -- a refusal leaves the pool
 pub refusal_done : (v : Verdict) (pool : Pool) → v.page ≡ None → IsDone v v.answer pool pool

@@ -1,10 +1,8 @@
 -- What a terminal holds, and the characters that it stands for.
 use Rattle.std.specs.Prelude.{◌≡◌, ℕ, ◌≤◌, Bool, true, false, List, [], ◌∷◌, ◌++◌, length, if◌then◌else◌, Option, Some, None}
 use Rattle.std.specs.Option.{option_to_list}
-use Rattle.std.specs.FinMap.{get}
 use Rattle.page_text.specs.Page.{Page}
 use Rattle.page_pool.specs.Pool.{Pool, Puts}
-use Rattle.subscribers.specs.Parts.{Parts}
 use Rattle.tap_block.specs.Brief.{Held, StandsFor}
 use Rattle.tap_block.specs.Reading.{Entry, BeforeLogon}
 use Rattle.tap_terminal.specs.declared.answers.Answer.{Answer}
@@ -12,7 +10,8 @@ use Rattle.tap_terminal.specs.declared.answers.Answer.TheVariants.{Nothing}
 use Rattle.tap_terminal.specs.declared.report.Report.{Report}
 use Rattle.tap_terminal.specs.declared.terminal.Stage.{Stage}
 use Rattle.tap_terminal.specs.declared.terminal.Stage.TheVariants.{Open, Ended, Forced}
-use Rattle.tap_terminal.specs.Verdict.{Directory, Verdict}
+use Rattle.subscribers.specs.Directory.{Directory}
+use Rattle.tap_terminal.specs.Verdict.{Verdict}
 use Rattle.tap_terminal.specs.Session.{Course, Told, Session, start, decide, tell, has_end, is_end, is_wrong, answers_of, pages_of, report_of, has_wrong_end, IsSession}
 
 -- what a terminal holds: its password, its scanner, the content so far, how many characters and wrong lines came, the report, and
@@ -25,10 +24,6 @@ pub record Desk : Type 0 where
   pub wrong : ℕ
   pub report : Report
   pub stage : Stage
-
--- the directory of settings
-abbrev pub directory_of : Parts → Directory
-directory_of settings id = get settings.ids id
 
 -- what a session has come to after items
 abbrev pub course_at : Directory → Course → List Entry → Course

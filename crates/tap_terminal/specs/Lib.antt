@@ -1,6 +1,5 @@
 pub mod Replies
 pub mod Reports
-pub mod Texts
 pub mod Verdict
 pub mod Session
 pub mod Desk

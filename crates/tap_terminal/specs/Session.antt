@@ -9,7 +9,8 @@ use Rattle.tap_terminal.specs.declared.answers.Answer.{Answer}
 use Rattle.tap_terminal.specs.declared.answers.Answer.TheVariants.{Id, Go, Nak, End}
 use Rattle.tap_terminal.specs.declared.report.Report.{Report}
 use Rattle.tap_terminal.specs.Reports.{counter_of, counts}
-use Rattle.tap_terminal.specs.Verdict.{Directory, Verdict, verdict}
+use Rattle.subscribers.specs.Directory.{Directory}
+use Rattle.tap_terminal.specs.Verdict.{Verdict, verdict}
 
 -- the last character of a session that isn't ended by an item
 abbrev pub longest : ℕ

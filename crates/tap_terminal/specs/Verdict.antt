@@ -6,16 +6,13 @@ use Rattle.tap_block.specs.declared.faults.FieldFault.{FieldFault}
 use Rattle.tap_block.specs.Fields.{read_field, parts_of}
 use Rattle.page_text.specs.Page.{Page}
 use Rattle.page_pool.specs.Cells.{cells_for}
+use Rattle.subscribers.specs.Directory.{Directory}
 use Rattle.subscribers.specs.declared.subscriber.Subscriber.{Subscriber}
 use Rattle.tap_terminal.specs.declared.answers.Answer.{Answer}
 use Rattle.tap_terminal.specs.declared.answers.Answer.TheVariants.{Ack, Nak, Rs}
 use Rattle.tap_terminal.specs.declared.answers.Reason.{Reason}
 use Rattle.tap_terminal.specs.declared.answers.Reason.TheVariants.{Body, Content, Form, Unknown, Text, Room}
-use Rattle.tap_terminal.specs.Texts.{fits}
-
--- the subscriber of an id, or none
-abbrev pub Directory : Type 0
-Directory = List ℕ → Option Subscriber
+use Rattle.page_text.specs.FitTest.{fits}
 
 -- the answer to a block, the content so far after it, and the page that is queued, or none
 pub record Verdict : Type 0 where

@@ -2,7 +2,8 @@
 
 ghost use Rattle.std.specs.Prelude.{◌≤◌, length};
 ghost use Rattle.tap_terminal.specs.Verdict.{judge_content, text_for};
-ghost use Rattle.tap_terminal.specs.Desk.{directory_of, IsDone};
+ghost use Rattle.subscribers.specs.Directory.{directory_of};
+ghost use Rattle.tap_terminal.specs.Desk.{IsDone};
 
 use crate::answers::{Answer, Reason};
 use crate::terminal::LONGEST_CONTENT;

@@ -1,7 +1,7 @@
 //! What the definitions of a session say, whatever the characters.
 
 ghost use Rattle.std.specs.Prelude.{◌≡◌, ℕ, ◌++◌, List, Option};
-ghost use Rattle.tap_terminal.specs.Verdict.{Directory};
+ghost use Rattle.subscribers.specs.Directory.{Directory};
 ghost use Rattle.tap_terminal.specs.Session.{Session, IsSession, Continues};
 ghost use Rattle.tap_terminal.specs.Desk.{Desk, Stands};
 

@@ -11,9 +11,9 @@ ghost use Rattle.std.specs.Prelude.{◌≡◌, ℕ, ◌+◌, ◌≤◌, ◌<◌,
 ghost use Rattle.tap_block.specs.Chars.{char_of};
 ghost use Rattle.tap_block.specs.Reading.{Entry, a_block};
 ghost use Rattle.tap_block.specs.Brief.{answer_of, BodyIs};
-ghost use Rattle.tap_terminal.specs.Verdict.{Directory};
+ghost use Rattle.subscribers.specs.Directory.{Directory, directory_of};
 ghost use Rattle.tap_terminal.specs.Session.{Session};
-ghost use Rattle.tap_terminal.specs.Desk.{Stands, HearsOn, IsJudged, Keeps, directory_of, unheard};
+ghost use Rattle.tap_terminal.specs.Desk.{Stands, HearsOn, IsJudged, Keeps, unheard};
 
 use crate::answers::{Answer, Reason};
 use crate::contents::judge_content;

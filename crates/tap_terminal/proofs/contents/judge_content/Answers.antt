@@ -1,4 +1,4 @@
-use Rattle.tap_terminal.specs.Desk.{directory_of}
+use Rattle.subscribers.specs.Directory.{directory_of}
 use Rattle.tap_terminal.proofs.Verdicts.{form_fault, no_values, no_first, no_second, both_read, fields_done}
 use Rattle.tap_terminal.proofs.contents.judge_content.Goals as goal
 

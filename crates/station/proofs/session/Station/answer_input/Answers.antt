@@ -2,7 +2,8 @@ use Rattle.std.proofs.Common.{ℕ, List, [], ◌++◌, ◌∙◌, take, length-a
 use Rattle.std.proofs.lemmas.List.{length-take-le}
 use Rattle.subscribers.specs.Parts.{Parts}
 use Rattle.std.specs.Prelude.{Option}
-use Rattle.tap_terminal.specs.Desk.{Stands, directory_of, unheard}
+use Rattle.subscribers.specs.Directory.{directory_of}
+use Rattle.tap_terminal.specs.Desk.{Stands, unheard}
 use Rattle.station.specs.Answering.{AnsweredUnprinted, Answering}
 use Rattle.station.specs.Hall.{Hall}
 use Rattle.station.proofs.Answered.{answered_all, answered_broken, answered_to_end, begins, course_ends, course_goes, few_taken, takes_more}

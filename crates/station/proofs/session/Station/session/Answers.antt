@@ -1,6 +1,7 @@
 use Rattle.std.proofs.Common.{List, Option, [], ◌∙◌, ap, arith, sym, subst}
 use Rattle.subscribers.specs.Parts.{Parts}
-use Rattle.tap_terminal.specs.Desk.{Stands, directory_of, unheard}
+use Rattle.subscribers.specs.Directory.{directory_of}
+use Rattle.tap_terminal.specs.Desk.{Stands, unheard}
 use Rattle.wires.proofs.Written.{still}
 use Rattle.station.specs.Hall.{Hall}
 use Rattle.station.specs.Sessions.{Fits, Ran}

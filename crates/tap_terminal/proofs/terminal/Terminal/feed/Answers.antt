@@ -3,7 +3,8 @@ use Rattle.tap_block.specs.Brief.{ReadsOn}
 use Rattle.tap_block.specs.Chars.{char_of}
 use Rattle.tap_block.specs.Reading.{BeforeLogon}
 use Rattle.tap_terminal.specs.DeskView.{desk_of}
-use Rattle.tap_terminal.specs.Desk.{Desk, Stands, IsJudged, Keeps, directory_of, is_open}
+use Rattle.subscribers.specs.Directory.{directory_of}
+use Rattle.tap_terminal.specs.Desk.{Desk, Stands, IsJudged, Keeps, is_open}
 use Rattle.tap_terminal.specs.declared.report.Report.{Report}
 use Rattle.tap_terminal.specs.Reports.{counter_of, tally}
 use Rattle.tap_terminal.proofs.Reports.{tally_added}

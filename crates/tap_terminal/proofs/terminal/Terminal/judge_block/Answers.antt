@@ -2,7 +2,8 @@ use Rattle.std.proofs.Common.{◌≡◌, ◌≤◌, ◌<◌, ◌+◌, ◌++◌, 
 use Rattle.tap_terminal.specs.declared.answers.Answer.TheVariants.{Rs, Ack}
 use Rattle.tap_terminal.specs.declared.answers.Reason.TheVariants.{Content}
 use Rattle.tap_terminal.specs.Verdict.{Verdict, refused, by_end, judge_content}
-use Rattle.tap_terminal.specs.Desk.{Desk, IsJudged, directory_of}
+use Rattle.subscribers.specs.Directory.{directory_of}
+use Rattle.tap_terminal.specs.Desk.{Desk, IsJudged}
 use Rattle.tap_terminal.specs.DeskView.{desk_of}
 use Rattle.tap_block.specs.Reading.{a_block}
 use Rattle.tap_terminal.proofs.Verdicts.{judged_by, verdict_content, verdict_rest, goes_on_by, content_joined, content_no_end, small_body, kept_whole, refusal_done}
