@@ -6,6 +6,7 @@ pub mod Heard
 pub mod Hunts
 pub mod Listens
 pub mod Locks
+pub mod Numbers
 pub mod Pages
 pub mod Pieces
 pub mod Registers

@@ -11,6 +11,7 @@ use Rattle.wires.proofs.Pieces.{taken_is, taken_twice}
 pub record Fed (before after : Listener) (piece left : List Bool) (pages : List HeardPage) : Type 0 where
   pub whole : piece ≡ taken_of piece left ++ left
   pub capcodes : after.capcodes ≡ before.capcodes
+  pub holders : after.holders ≡ before.holders
   pub stands : (bits : List Bool) → StandsFor before bits → StandsFor after (bits ++ taken_of piece left)
   pub page : (bits : List Bool) → StandsFor before bits
       → heard (is_one_of before.capcodes) (bits ++ taken_of piece left) ≡ heard (is_one_of before.capcodes) bits ++ pages
@@ -28,6 +29,7 @@ fed_none listener piece =
     record {
       whole = subst (λ (xs : List Bool). piece ≡ xs ++ piece) (sym t) refl;
       capcodes = refl;
+      holders = refl;
       stands = λ (bits : List Bool) (h : StandsFor listener bits). subst (λ (xs : List Bool). StandsFor listener xs) (sym (ap (λ (xs : List Bool). bits ++ xs) t ∙ append-nil bits)) h;
       page = λ (bits : List Bool) (h : StandsFor listener bits).
           ap (heard (is_one_of listener.capcodes)) (ap (λ (xs : List Bool). bits ++ xs) t ∙ append-nil bits) ∙ sym (append-nil (heard (is_one_of listener.capcodes) bits));
@@ -50,6 +52,7 @@ fed_then a b c piece left rest pages f g =
           ∙ sym (append_assoc (taken_of piece left) (taken_of left rest) rest)
           ∙ ap (λ (xs : List Bool). xs ++ rest) (sym (taken_twice piece left rest f.whole g.whole));
       capcodes = g.capcodes ∙ f.capcodes;
+      holders = g.holders ∙ f.holders;
       stands = λ (bits : List Bool) (h : StandsFor a bits).
           subst (λ (xs : List Bool). StandsFor c xs) (sym (both_parts bits piece left rest f.whole g.whole)) (g.stands (bits ++ taken_of piece left) (f.stands bits h));
       page = λ (bits : List Bool) (h : StandsFor a bits).

@@ -4,6 +4,7 @@ pub mod Gathering
 pub mod Heard
 pub mod Listeners
 pub mod Locks
+pub mod Receivers
 pub mod Registers
 pub mod Slots
 pub mod Steps

@@ -26,16 +26,18 @@ gathered_of page ready groups = record {
   ready = option_map (page_with_groups groups) ready;
 }
 
--- a front end, the capcodes that are listened to, the page under way, and the page that the last bit completed
+-- A front end, the capcodes that are listened to, each capcode with the set of its receivers' numbers, the page under way, and the page
+-- that the last bit completed. A receiver alone has no number.
 pub record Listener : Type 0 where
   pub front : FrontEnd
   pub capcodes : List ℕ
+  pub holders : List (ℕ × ℕ)
   pub under_way : Option HeardPage
   pub ready : Option HeardPage
 
 -- a listener, of its parts
-abbrev pub listener_of : FrontEnd → List ℕ → Gathered → Listener
-listener_of front capcodes gathered = record { front = front; capcodes = capcodes; under_way = gathered.under_way; ready = gathered.ready }
+abbrev pub listener_of : FrontEnd → List ℕ → List (ℕ × ℕ) → Gathered → Listener
+listener_of front capcodes holders gathered = record { front = front; capcodes = capcodes; holders = holders; under_way = gathered.under_way; ready = gathered.ready }
 
 -- the capcode is one of these
 abbrev pub is_one_of : List ℕ → ℕ → Bool

@@ -1,11 +1,14 @@
-//! Receivers of several capcodes with one front end: docs/profile.md, "page heard".
+//! Receivers with numbers, each with its capcodes, and one front end for all: docs/profile.md, "page heard".
 
-ghost use Rattle.std.specs.Prelude.{◌≡◌, ℕ, ◌+◌, ◌≤◌, ◌<◌, [], ◌∷◌, ◌++◌, Bool, IfOk, IfSome, IsSome, List, None, length, take, true};
+ghost use Rattle.std.specs.Prelude.{◌≡◌, ℕ, ◌+◌, ◌≤◌, ◌<◌, ◌==◌, ◌&&◌, ◌||◌, [], ◌∷◌, ◌++◌, All, Bool, IfOk, IfSome, IsSome, List, None, OnOk, length, take, true};
+ghost use Rattle.std.specs.BTreeMap.{keys};
+ghost use Rattle.std.specs.List.{slice_get};
 ghost use Rattle.codeword.specs.Capcodes.{IsUsable};
 ghost use Rattle.codeword.specs.Kinds.{IsSmall};
 ghost use Rattle.page_text.specs.Texts.{text_of};
 ghost use Rattle.receiver.specs.Gathering.{IsFound, IsOurs};
 ghost use Rattle.receiver.specs.Listeners.{is_one_of};
+ghost use Rattle.receiver.specs.Receivers.{has_in, is_listed, is_paired, most_receivers, numbers_in, numbers_with};
 ghost use Rattle.wires.specs.Pieces.{taken_of};
 
 use crate::front::{Front, FrontEvent};
@@ -13,19 +16,23 @@ use crate::gathering::Gathering;
 use crate::ready::Ready;
 use codeword::{Capcode, WordKind, kind};
 use std::alloc::Global;
-use std::collections::BTreeSet;
+use std::collections::BTreeMap;
 use std::marker::Model;
 use std::sync::ledger::Ledger;
 use wires::Memory;
 use wires::piece::Piece;
 use wires::steps::Steps;
 
-/// Receivers of several capcodes, fed bit by bit. They have one front end, each slot's word is corrected once for all, and one page is
+/// The most receivers of a group.
+const MOST_RECEIVERS: u32 = 64;
+
+/// Receivers with the numbers 1 to 64, each with its capcodes, fed bit by bit. They have one front end, each slot's word is corrected once for all, and one page is
 /// under way at a time, since an address word ends the page before it.
 #[derive(Drop)]
 pub struct Group {
     front: Front,
-    capcodes: BTreeSet<u32, Global>,
+    /// The receivers of each capcode, as a set of their numbers: the lowest bit is for the receiver 1.
+    holders: BTreeMap<u32, u64, Global>,
     gathering: Gathering,
 }
 
@@ -33,12 +40,13 @@ impl Model for Group {
     ghost use Rattle.std.specs.Prelude.{◌≡◌, ℕ, true};
     ghost use Rattle.codeword.specs.Capcodes.{IsUsable};
     ghost use Rattle.receiver.specs.Listeners.{Listener, is_one_of, listener_of};
+    ghost use Rattle.std.specs.BTreeMap.{keys};
 
     ghost Value = { Listener };
 
-    ghost view = { λ g. listener_of g.front g.capcodes.keys g.gathering };
+    ghost view = { λ g. listener_of g.front (keys g.holders) g.holders.entries g.gathering };
 
-    ghost invariant = { λ g. (c : ℕ) → is_one_of g.capcodes.keys c ≡ true → IsUsable c };
+    ghost invariant = { λ g. (c : ℕ) → is_one_of (keys g.holders) c ≡ true → IsUsable c };
 }
 
 impl Group {
@@ -46,30 +54,44 @@ impl Group {
     ghost use Rattle.receiver.specs.Heard.{heard};
     ghost use Rattle.receiver.specs.Slots.{slots_in};
 
-    /// Receivers of these capcodes that were fed no bit. Memory comes only where there was none for the capcodes. No later call takes
-    /// memory.
-    pub fn new(alloc: Global, capcodes: &[Capcode]) -> Result<Group, Memory>
-        ensures capcodes { IfOk result (λ g. (c : ℕ) → is_one_of g.capcodes c ≡ is_one_of capcodes.now c) }
+    /// Receivers of these pairs of a number and a capcode, that were fed no bit. The numbers are from 1 to 64. Memory comes only where
+    /// there was none for the pairs. No later call takes memory.
+    pub fn new(alloc: Global, pairs: &[(u32, Capcode)]) -> Result<Group, Memory>
+        requires numbers { All (λ pair. (1 ≤ pair.0) × (pair.0 ≤ most_receivers)) pairs.now }
+        ensures capcodes { IfOk result (λ g. (c : ℕ) → is_one_of g.capcodes c ≡ is_listed pairs.now c) }
+        ensures has { IfOk result (λ g. (number c : ℕ) → has_in g.holders number c ≡ is_paired pairs.now number c) }
         ensures ready { IfOk result (λ g. g.ready ≡ None) }
         ensures stands { IfOk result (λ g. StandsFor g []) }
     {
-        let mut numbers = BTreeSet::new(alloc);
-        for capcode in capcodes {
-            let Ok(_) = numbers.insert(capcode.number()) else {
+        let mut holders = BTreeMap::new(alloc);
+        for (number, capcode) in pairs {
+            if let Err(Memory) = add_holder(&mut holders, *number, *capcode) {
                 return Err(Memory);
-            };
+            }
         }
         Ok(Group {
             front: Front::new(),
-            capcodes: numbers,
+            holders,
             gathering: Gathering::new(),
         })
+    }
+
+    /// The number of the receiver that comes after so many among those that have this capcode, in ascending order. None exactly where
+    /// there are no more than so many. The time doesn't grow with the number of receivers.
+    pub fn holder(&self, capcode: Capcode, k: u32) -> Option<u32>
+        ensures { result ≡ slice_get (numbers_with (has_in self.now.holders) capcode) k }
+    {
+        match self.holders.get(&capcode.number()) {
+            Some(set) => number_in(*set, k),
+            None => None,
+        }
     }
 
     /// Takes the next bit. Answers the page that it completes, and None exactly where it completes none. Counts one step for the word of
     /// a slot that it completes, and none at another bit.
     pub fn feed<L: Ledger>(&mut self, bit: bool, steps: &mut Steps<L>) -> Option<Ready>
         ensures capcodes { self.new.capcodes ≡ self.old.capcodes }
+        ensures holders { self.new.holders ≡ self.old.holders }
         ensures stands { (bits : List Bool) → StandsFor self.old bits → StandsFor self.new (bits ++ bit ∷ []) }
         ensures page { (bits : List Bool) → StandsFor self.old bits
             → heard (is_one_of self.old.capcodes) (bits ++ bit ∷ []) ≡ heard (is_one_of self.old.capcodes) bits ++ ready_pages self.new.ready }
@@ -87,7 +109,7 @@ impl Group {
             FrontEvent::Slot(place, word) => {
                 steps.tick();
                 let kind = kind(word);
-                let ours = match_any(&self.capcodes, place, kind);
+                let ours = match_any(&self.holders, place, kind);
                 self.gathering.slot(place, kind, ours)
             }
         }
@@ -101,6 +123,7 @@ impl Group {
         steps: &mut Steps<L>,
     ) -> Option<Ready>
         ensures capcodes { self.new.capcodes ≡ self.old.capcodes }
+        ensures holders { self.new.holders ≡ self.old.holders }
         ensures stands { (bits : List Bool) → StandsFor self.old bits → StandsFor self.new (bits ++ taken_of piece.old piece.new) }
         ensures page { (bits : List Bool) → StandsFor self.old bits
             → heard (is_one_of self.old.capcodes) (bits ++ taken_of piece.old piece.new) ≡ heard (is_one_of self.old.capcodes) bits ++ ready_pages self.new.ready }
@@ -124,6 +147,7 @@ impl Group {
     /// complete.
     fn meet<L: Ledger>(&mut self, piece: &mut Piece, steps: &mut Steps<L>) -> Option<Ready>
         ensures capcodes { self.new.capcodes ≡ self.old.capcodes }
+        ensures holders { self.new.holders ≡ self.old.holders }
         ensures stands { (bits : List Bool) → StandsFor self.old bits → StandsFor self.new (bits ++ taken_of piece.old piece.new) }
         ensures page { (bits : List Bool) → StandsFor self.old bits
             → heard (is_one_of self.old.capcodes) (bits ++ taken_of piece.old piece.new) ≡ heard (is_one_of self.old.capcodes) bits ++ ready_pages self.new.ready }
@@ -143,7 +167,7 @@ impl Group {
             FrontEvent::Slot(place, word) => {
                 steps.tick();
                 let kind = kind(word);
-                let ours = match_any(&self.capcodes, place, kind);
+                let ours = match_any(&self.holders, place, kind);
                 self.gathering.slot(place, kind, ours)
             }
         }
@@ -162,30 +186,66 @@ impl Group {
     }
 }
 
+/// Adds a receiver's number to those of a capcode. Memory comes only where there was none.
+fn add_holder(
+    holders: &mut BTreeMap<u32, u64, Global>,
+    number: u32,
+    capcode: Capcode,
+) -> Result<(), Memory>
+    requires some { 1 ≤ number }
+    requires most { number ≤ most_receivers }
+    ensures has { OnOk result ((n c : ℕ) → has_in holders.new.entries n c ≡ (has_in holders.old.entries n c || ((number == n) && (capcode == c)))) }
+    ensures keys { OnOk result ((c : ℕ) → is_one_of (keys holders.new) c ≡ (is_one_of (keys holders.old) c || (capcode == c))) }
+    ensures usable { IsUsable capcode }
+{
+    let key = capcode.number();
+    let old = holders.get(&key).copied().unwrap_or(0);
+    match holders.insert(key, old | (1 << (number - 1))) {
+        Ok(_) => Ok(()),
+        Err(_) => Err(Memory),
+    }
+}
+
+/// The number that comes after so many in a set of numbers, in ascending order.
+fn number_in(set: u64, k: u32) -> Option<u32>
+    ensures { result ≡ slice_get (numbers_in set) k }
+{
+    let mut before = k;
+    for n in 0..MOST_RECEIVERS {
+        if (set >> n) & 1 == 1 {
+            if before == 0 {
+                return Some(n + 1);
+            }
+            before -= 1;
+        }
+    }
+    None
+}
+
 /// The capcode of these whose address word the word in this slot is.
 fn match_any(
-    capcodes: &BTreeSet<u32, Global>,
+    holders: &BTreeMap<u32, u64, Global>,
     place: u32,
     kind: Option<WordKind>,
 ) -> Option<Capcode>
-    requires usable { (c : ℕ) → is_one_of capcodes.now.keys c ≡ true → IsUsable c }
+    requires usable { (c : ℕ) → is_one_of (keys holders.now) c ≡ true → IsUsable c }
     requires place { place < 16 }
     requires small { IfSome kind IsSmall }
-    ensures { IsOurs (is_one_of capcodes.now.keys) place kind result }
+    ensures { IsOurs (is_one_of (keys holders.now)) place kind result }
 {
     let said = kind?;
     match said {
-        WordKind::Address { high, function: _ } => find(capcodes, 8 * high + place / 2),
+        WordKind::Address { high, function: _ } => find(holders, 8 * high + place / 2),
         WordKind::Message { group: _ } => None,
     }
 }
 
 /// The capcode of this number, where it is one of these.
-fn find(capcodes: &BTreeSet<u32, Global>, number: u32) -> Option<Capcode>
-    requires usable { (c : ℕ) → is_one_of capcodes.now.keys c ≡ true → IsUsable c }
-    ensures { IsFound capcodes.now.keys number result }
+fn find(holders: &BTreeMap<u32, u64, Global>, number: u32) -> Option<Capcode>
+    requires usable { (c : ℕ) → is_one_of (keys holders.now) c ≡ true → IsUsable c }
+    ensures { IsFound (keys holders.now) number result }
 {
-    if capcodes.contains(&number) {
+    if holders.contains_key(&number) {
         Capcode::of(number)
     } else {
         None

@@ -9,8 +9,8 @@
 //! - `register`: the last bits that came.
 //! - `gathering`: the page under way, and the page that the last bit completed.
 //! - `ready`: what is answered of a page that is complete.
-//! - `receiver`: a receiver of one capcode.
-//! - `group`: receivers of several capcodes, with one front end.
+//! - `receiver`: a receiver of one to four capcodes.
+//! - `group`: receivers with numbers, each with its capcodes, and one front end for all.
 //! - `laws`: where a hunt over a preamble finds the sync word.
 //!
 //! `specs/Stretches.antt` cuts a list of bits into stretches of lock, `specs/Slots.antt` gives their slots and the table of what was

@@ -1,9 +1,9 @@
-//! A receiver of one capcode: docs/profile.md, "page heard".
+//! A receiver of one to four capcodes: docs/profile.md, "page heard".
 
 ghost use Rattle.std.specs.Prelude.{◌≡◌, ℕ, ◌≤◌, ◌<◌, [], ◌∷◌, ◌++◌, Bool, IfSome, IsSome, List, None, length, take};
 ghost use Rattle.codeword.specs.Kinds.{IsSmall};
 ghost use Rattle.page_text.specs.Texts.{text_of};
-ghost use Rattle.receiver.specs.Gathering.{IsOurs};
+ghost use Rattle.receiver.specs.Gathering.{IsFound, IsOurs};
 ghost use Rattle.receiver.specs.Listeners.{is_one_of};
 ghost use Rattle.wires.specs.Pieces.{taken_of};
 
@@ -14,36 +14,86 @@ use codeword::{Capcode, WordKind, kind};
 use std::marker::Model;
 use wires::piece::Piece;
 
-/// A receiver of one capcode, fed bit by bit.
+/// The most capcodes of a receiver.
+const MOST_CAPCODES: usize = 4;
+
+/// One to four capcodes.
+#[derive(Drop)]
+struct Capcodes {
+    items: [Capcode; MOST_CAPCODES],
+    count: usize,
+}
+
+impl Model for Capcodes {
+    ghost use Rattle.std.specs.Prelude.{ℕ, ◌≤◌, List, take};
+
+    ghost Value = { List ℕ };
+
+    ghost view = { λ c. take c.count c.items };
+
+    ghost invariant = { λ c. c.count ≤ 4 };
+}
+
+impl Capcodes {
+    /// These capcodes.
+    fn of(capcodes: &[Capcode]) -> Capcodes
+        requires some { 1 ≤ length capcodes.now }
+        requires few { length capcodes.now ≤ 4 }
+        ensures { result ≡ capcodes.now }
+    {
+        let mut items = [capcodes[0]; MOST_CAPCODES];
+        items[..capcodes.len()].copy_from_slice(capcodes);
+        Capcodes {
+            items,
+            count: capcodes.len(),
+        }
+    }
+
+    /// The capcode of this number, where it is one of these.
+    fn find(&self, number: u32) -> Option<Capcode>
+        ensures { IsFound self.now number result }
+    {
+        for capcode in &self.items[..self.count] {
+            if capcode.number() == number {
+                return Some(*capcode);
+            }
+        }
+        None
+    }
+}
+
+/// A receiver of one to four capcodes, fed bit by bit.
 #[derive(Drop)]
 pub struct Receiver {
     front: Front,
-    capcode: Capcode,
+    capcodes: Capcodes,
     gathering: Gathering,
 }
 
 impl Model for Receiver {
-    ghost use Rattle.std.specs.Prelude.{[], ◌∷◌};
+    ghost use Rattle.std.specs.Prelude.{[]};
     ghost use Rattle.receiver.specs.Listeners.{Listener, listener_of};
 
     ghost Value = { Listener };
 
-    ghost view = { λ r. listener_of r.front (r.capcode ∷ []) r.gathering };
+    ghost view = { λ r. listener_of r.front r.capcodes [] r.gathering };
 }
 
 impl Receiver {
     ghost use Rattle.receiver.specs.Listeners.{StandsFor, answer_of, ready_pages};
     ghost use Rattle.receiver.specs.Heard.{heard};
 
-    /// A receiver that was fed no bit.
-    pub fn new(capcode: Capcode) -> Receiver
-        ensures capcodes { result.capcodes ≡ capcode ∷ [] }
+    /// A receiver of these one to four capcodes that was fed no bit.
+    pub fn new(capcodes: &[Capcode]) -> Receiver
+        requires some { 1 ≤ length capcodes.now }
+        requires few { length capcodes.now ≤ 4 }
+        ensures capcodes { result.capcodes ≡ capcodes.now }
         ensures ready { result.ready ≡ None }
         ensures stands { StandsFor result [] }
     {
         Receiver {
             front: Front::new(),
-            capcode,
+            capcodes: Capcodes::of(capcodes),
             gathering: Gathering::new(),
         }
     }
@@ -51,6 +101,7 @@ impl Receiver {
     /// Takes the next bit. Answers the page that it completes, and None exactly where it completes none.
     pub fn feed(&mut self, bit: bool) -> Option<Ready>
         ensures capcodes { self.new.capcodes ≡ self.old.capcodes }
+        ensures holders { self.new.holders ≡ self.old.holders }
         ensures stands { (bits : List Bool) → StandsFor self.old bits → StandsFor self.new (bits ++ bit ∷ []) }
         ensures page { (bits : List Bool) → StandsFor self.old bits
             → heard (is_one_of self.old.capcodes) (bits ++ bit ∷ []) ≡ heard (is_one_of self.old.capcodes) bits ++ ready_pages self.new.ready }
@@ -66,7 +117,7 @@ impl Receiver {
             }
             FrontEvent::Slot(place, word) => {
                 let kind = kind(word);
-                let ours = match_own(self.capcode, place, kind);
+                let ours = match_own(&self.capcodes, place, kind);
                 self.gathering.slot(place, kind, ours)
             }
         }
@@ -76,6 +127,7 @@ impl Receiver {
     /// complete.
     pub fn feed_piece(&mut self, piece: &mut Piece) -> Option<Ready>
         ensures capcodes { self.new.capcodes ≡ self.old.capcodes }
+        ensures holders { self.new.holders ≡ self.old.holders }
         ensures stands { (bits : List Bool) → StandsFor self.old bits → StandsFor self.new (bits ++ taken_of piece.old piece.new) }
         ensures page { (bits : List Bool) → StandsFor self.old bits
             → heard (is_one_of self.old.capcodes) (bits ++ taken_of piece.old piece.new) ≡ heard (is_one_of self.old.capcodes) bits ++ ready_pages self.new.ready }
@@ -98,6 +150,7 @@ impl Receiver {
     /// complete.
     fn meet(&mut self, piece: &mut Piece) -> Option<Ready>
         ensures capcodes { self.new.capcodes ≡ self.old.capcodes }
+        ensures holders { self.new.holders ≡ self.old.holders }
         ensures stands { (bits : List Bool) → StandsFor self.old bits → StandsFor self.new (bits ++ taken_of piece.old piece.new) }
         ensures page { (bits : List Bool) → StandsFor self.old bits
             → heard (is_one_of self.old.capcodes) (bits ++ taken_of piece.old piece.new) ≡ heard (is_one_of self.old.capcodes) bits ++ ready_pages self.new.ready }
@@ -115,7 +168,7 @@ impl Receiver {
             }
             FrontEvent::Slot(place, word) => {
                 let kind = kind(word);
-                let ours = match_own(self.capcode, place, kind);
+                let ours = match_own(&self.capcodes, place, kind);
                 self.gathering.slot(place, kind, ours)
             }
         }
@@ -134,21 +187,15 @@ impl Receiver {
     }
 }
 
-/// The capcode, where the word in this slot is an address word of it.
-fn match_own(own: Capcode, place: u32, kind: Option<WordKind>) -> Option<Capcode>
+/// The capcode of these whose address word the word in this slot is.
+fn match_own(own: &Capcodes, place: u32, kind: Option<WordKind>) -> Option<Capcode>
     requires place { place < 16 }
     requires small { IfSome kind IsSmall }
-    ensures { IsOurs (is_one_of (own ∷ [])) place kind result }
+    ensures { IsOurs (is_one_of own.now) place kind result }
 {
     let said = kind?;
     match said {
-        WordKind::Address { high, function: _ } => {
-            if 8 * high + place / 2 == own.number() {
-                Some(own)
-            } else {
-                None
-            }
-        }
+        WordKind::Address { high, function: _ } => own.find(8 * high + place / 2),
         WordKind::Message { group: _ } => None,
     }
 }

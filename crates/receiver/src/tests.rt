@@ -128,7 +128,7 @@ fn hear_alone(
     capcode: Capcode,
     bits: &[bool],
 ) -> Result<Vec<HeardPage>, AllocError> {
-    let mut receiver = Receiver::new(capcode);
+    let mut receiver = Receiver::new(&[capcode]);
     let mut heard = Vec::new(alloc);
     let mut text = [0; 700];
     for (k, bit) in bits.iter().enumerate() {
@@ -151,7 +151,7 @@ fn hear_in_pieces(
     size: usize,
     bits: &[bool],
 ) -> Result<Vec<HeardPage>, AllocError> {
-    let mut receiver = Receiver::new(capcode);
+    let mut receiver = Receiver::new(&[capcode]);
     let mut heard = Vec::new(alloc);
     let mut text = [0; 700];
     let mut at = 0;
@@ -180,7 +180,11 @@ fn hear_together(
     capcodes: &[Capcode],
     bits: &[bool],
 ) -> Result<Vec<HeardPage>, Fail> {
-    let mut group = Group::new(alloc, capcodes)?;
+    let mut pairs = Vec::new(alloc);
+    for capcode in capcodes {
+        pairs.push((1, *capcode))?;
+    }
+    let mut group = Group::new(alloc, &pairs)?;
     let mut steps = Steps::<Work>::new();
     let mut heard = Vec::new(alloc);
     let mut text = [0; 700];
@@ -327,5 +331,45 @@ fn a_page_has_at_most_140_message_words(rt: HostRuntime) -> Result<(), Fail> {
             "of {messages} message words"
         );
     }
+    Ok(())
+}
+
+// Receivers 2, 1 and 64 share capcode 8, and receiver 1 has capcode 16 too.
+#[test]
+fn the_holders_of_a_capcode_ascend(rt: HostRuntime) -> Result<(), Fail> {
+    let [eight, sixteen, other] = [8, 16, 24].map(Capcode::of);
+    let eight = eight.expect(&rt, "a usable capcode");
+    let sixteen = sixteen.expect(&rt, "a usable capcode");
+    let other = other.expect(&rt, "a usable capcode");
+    let pairs = [(64, eight), (2, eight), (1, sixteen), (1, eight)];
+    let group = Group::new(rt.alloc(), &pairs)?;
+    for (k, number) in [(0, Some(1)), (1, Some(2)), (2, Some(64)), (3, None)] {
+        assert_eq!(rt; group.holder(eight, k), number);
+    }
+    assert_eq!(rt; group.holder(sixteen, 0), Some(1));
+    assert_eq!(rt; group.holder(sixteen, 1), None);
+    assert_eq!(rt; group.holder(other, 0), None);
+    Ok(())
+}
+
+// The word is an address word of the second capcode of one receiver.
+#[test]
+fn a_receiver_has_several_capcodes(rt: HostRuntime) -> Result<(), Fail> {
+    let alloc = rt.alloc();
+    let mut bits = Vec::new(alloc);
+    add_abc(&mut bits)?;
+    let [eight, nine] = [8, 9].map(Capcode::of);
+    let capcodes = [
+        nine.expect(&rt, "a usable capcode"),
+        eight.expect(&rt, "a usable capcode"),
+    ];
+    let mut receiver = Receiver::new(&capcodes);
+    let mut count = 0u32;
+    for bit in &bits {
+        if receiver.feed(*bit).is_some() {
+            count = count.saturating_add(1);
+        }
+    }
+    assert_eq!(rt; count, 1);
     Ok(())
 }

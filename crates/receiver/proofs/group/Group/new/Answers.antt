@@ -1,11 +1,15 @@
-use Rattle.std.proofs.Common.{sym, ◌∙◌}
-use Rattle.receiver.proofs.Capcodes.{inserted, inserted_usable}
+use Rattle.std.proofs.Common.{Bool, ◌||◌, ◌==◌, ◌&&◌, ◌∙◌, ap}
+use Rattle.std.specs.BTreeMap.{keys}
+use Rattle.receiver.proofs.Capcodes.{key_usable, listed_more, paired_more}
 use Rattle.receiver.proofs.group.Group.new.Goals as goal
 
-pub loop-capcode-preserved : goal.loop-capcode-preserved
-loop-capcode-preserved c =
-    let is = sym c.capcode-item.is ∙ sym c.number.ensures.value in
+pub loop-number-preserved : goal.loop-number-preserved
+loop-number-preserved c =
+    let item = c.loop-number-item.result in
     record {
-      usable = inserted_usable c.loop-capcode.numbers.keys c.insert.new.self.keys c.number.result c.number.ensures.usable c.in-Ok.ensures.updates.0 c.loop-capcode.invariant.usable;
-      same = λ q. inserted c.loop-capcode.numbers.keys c.insert.new.self.keys c.args.capcodes.now c.loop-capcode.capcode-index c.number.result _ c.loop-capcode-test.true is c.in-Ok.ensures.updates.0 q (c.loop-capcode.invariant.same q);
+      usable = key_usable (keys c.loop-number.holders) (keys c.add_holder.new.holders) item.1 c.add_holder.ensures.usable c.in_default.ensures.keys c.loop-number.invariant.usable;
+      capcodes = λ q. c.in_default.ensures.keys q ∙ ap (λ (b : Bool). b || (item.1 == q)) (c.loop-number.invariant.capcodes q)
+          ∙ listed_more c.args.pairs.now c.loop-number.number-index item c.loop-number-test.true c.loop-number-item.is q;
+      has = λ n q. c.in_default.ensures.has n q ∙ ap (λ (b : Bool). b || ((item.0 == n) && (item.1 == q))) (c.loop-number.invariant.has n q)
+          ∙ paired_more c.args.pairs.now c.loop-number.number-index item c.loop-number-test.true c.loop-number-item.is n q;
     }

@@ -1,11 +1,14 @@
 use Rattle.std.proofs.Common.{ℕ, ◌≡◌, true, take}
+use Rattle.std.specs.BTreeMap.{keys}
 use Rattle.codeword.specs.Capcodes.{IsUsable}
 use Rattle.receiver.specs.Listeners.{is_one_of}
+use Rattle.receiver.specs.Receivers.{has_in, is_listed, is_paired}
 use Rattle.receiver.proofs.group.Group.new.Given as goal
 
--- the numbers so far are those of the capcodes so far
-abbrev pub invariant-loop-capcode : goal.invariant-loop-capcode
-invariant-loop-capcode l = record {
-  usable : (c : ℕ) → is_one_of l.numbers.keys c ≡ true → IsUsable c;
-  same : (c : ℕ) → is_one_of l.numbers.keys c ≡ is_one_of (take l.capcode-index l.capcodes) c;
+-- the receivers and capcodes so far are those of the pairs so far
+abbrev pub invariant-loop-number : goal.invariant-loop-number
+invariant-loop-number l = record {
+  usable : (c : ℕ) → is_one_of (keys l.holders) c ≡ true → IsUsable c;
+  capcodes : (c : ℕ) → is_one_of (keys l.holders) c ≡ is_listed (take l.number-index l.pairs) c;
+  has : (n c : ℕ) → has_in l.holders.entries n c ≡ is_paired (take l.number-index l.pairs) n c;
 }
