@@ -11,6 +11,7 @@ pub mod Pages
 pub mod Pieces
 pub mod Registers
 mod Rows
+pub mod Shown
 pub mod Slots
 pub mod Stretches
 pub mod Windows

@@ -8,7 +8,7 @@ use Rattle.std.proofs.lemmas.Nat.Bits.{shr_and_one}
 use Rattle.std.specs.BTreeMap.{is_at}
 use Rattle.std.specs.Ordering.{nat_cmp}
 use Rattle.receiver.proofs.Capcodes.{lookup-same}
-use Rattle.receiver.specs.Receivers.{has_in, is_in_set, is_in_some, numbers_from, numbers_in, numbers_with}
+use Rattle.receiver.specs.Receivers.{has_in, is_in_some, numbers_from, numbers_in, numbers_with}
 
 one_more : (set n m : ℕ) → numbers_from set (suc n) (suc m) ≡ cond (bit_at set n == 1) (suc n ∷ numbers_from set (suc n + 1) m) (numbers_from set (suc n + 1) m)
 unfolding numbers_from

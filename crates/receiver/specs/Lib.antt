@@ -6,6 +6,7 @@ pub mod Listeners
 pub mod Locks
 pub mod Receivers
 pub mod Registers
+pub mod Shown
 pub mod Slots
 pub mod Steps
 pub mod Stretches

@@ -1,4 +1,4 @@
-use Rattle.std.proofs.Common.{◌≡◌, ◌-◌, refl, sym, ◌∙◌, ap}
+use Rattle.std.proofs.Common.{refl, sym, ◌∙◌, ap}
 use Rattle.std.specs.List.{slice_get}
 use Rattle.receiver.specs.Receivers.{numbers_from}
 use Rattle.receiver.proofs.Numbers.{found, goes_past, goes_on, none_left}
