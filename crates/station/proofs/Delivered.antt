@@ -13,7 +13,8 @@ use Rattle.station.proofs.BothEnds.{both_ends}
 use Rattle.station.proofs.NearAir.{near_air}
 use Rattle.station.specs.Delivered.{Call, Delivered, accepted_by, page_for, pages_for, sent_by}
 use Rattle.station.specs.Joined.{AreFor, sent_of}
-use Rattle.station.specs.NearAir.{joined, pages_of}
+use Rattle.station.specs.NearAir.{joined}
+use Rattle.receiver.specs.Shown.{pages_in, pages_of_frame}
 
 -- pages that are those of a client's are the client's as pages of their subscribers
 AreFor-pages_for : (directory : Directory) (pages : List Page) (accepted : List Accepted) → AreFor directory pages accepted → accepted ≡ pages_for directory pages
@@ -41,5 +42,6 @@ acceptable_by bytes {settings = settings} {spare = spare} (call ∷ calls) h =
     All-cons (All IsAcceptable) call.session.pages (accepted_by calls) (are_acceptable bytes settings spare call.said call.session h call.session_is) (acceptable_by bytes calls h)
 
 pub delivered : Delivered
-delivered bytes settings spare calls listens bits h usable near capcode l =
-    near_air listens (accepted_by calls) bits usable (acceptable_by bytes calls h) near capcode l ∙ ap (pages_of capcode) (joined-sent calls)
+delivered bytes settings spare calls listens bits h usable near set f within =
+    near_air listens (accepted_by calls) bits usable (acceptable_by bytes calls h) near set f within
+    ∙ ap (λ (pages : List Accepted). pages_of_frame f (pages_in set pages)) (joined-sent calls)

@@ -4,7 +4,10 @@ use Rattle.std.specs.Prelude.{map}
 use Rattle.std.proofs.lemmas.Grind.{flat_map-append}
 use Rattle.std.proofs.lemmas.List.{map-append}
 use Rattle.receiver.specs.Heard.{HeardPage, heard, pages_from, stretch_pages, with_text}
+use Rattle.page_text.specs.Page.{Page}
 use Rattle.receiver.specs.Listeners.{is_one_of}
+use Rattle.receiver.specs.Receivers.{is_paired}
+use Rattle.receiver.specs.Shown.{shown, shown_page}
 use Rattle.receiver.specs.Slots.{Batch, Entry, entries, entries_from, slots_of, stretch_entries}
 use Rattle.receiver.specs.Stretches.{after_loss, after_sync, held_from, held_with, held_words, is_sync, is_sync_place, later_with, loss_from, loss_with, stretches, stretches_with, words_of}
 use Rattle.receiver.proofs.Hunts.{short_finds}
@@ -14,7 +17,7 @@ use Rattle.receiver.proofs.Slots.{entries_from-push, slots_from-push}
 use Rattle.receiver.proofs.Stretches.{after_loss-append, after_sync-append, length-after_sync, stretches-is, words_of-append}
 use Rattle.station.proofs.Lists.{front_append, front_same, front_then, splice}
 use Rattle.station.proofs.Tables.{entry_lines-append}
-use Rattle.station.specs.PageLines.{page_line, page_lines, play_lines}
+use Rattle.station.specs.PageLines.{alone_from, lines_heard, play_lines, shown_line, shown_lines}
 use Rattle.station.specs.Table.{batches_in, entry_lines, table_of}
 use Rattle.station.specs.Talk.{IsFront}
 
@@ -122,16 +125,23 @@ entries_grow xs ys =
 
 -- ---- what is printed
 
--- what `play` prints of bits begins with what it prints of each front of them
-pub play_lines-grow : (capcodes : List ℕ) → Grows (play_lines capcodes)
-play_lines-grow capcodes bits more =
-    let h = stretches_grow (stretch_pages (is_one_of capcodes)) (pages_grow (is_one_of capcodes)) (length bits) bits more (omega arith) in
+shown-append : (has : ℕ → ℕ → Bool) (xs ys : List Page) → shown_lines (shown has (xs ++ ys)) ≡ shown_lines (shown has xs) ++ shown_lines (shown has ys)
+shown-append has xs ys = ap shown_lines (flat_map-append (shown_page has) xs ys) ∙ flat_map-append shown_line (shown has xs) (shown has ys)
+
+-- what receivers print of bits begins with what they print of each front of them
+pub lines_heard-grow : (listens : ℕ → Bool) (has : ℕ → ℕ → Bool) → Grows (lines_heard listens has)
+lines_heard-grow listens has bits more =
+    let h = stretches_grow (stretch_pages listens) (pages_grow listens) (length bits) bits more (omega arith) in
     record {
-      rest = page_lines (map with_text h.rest);
+      rest = shown_lines (shown has (map with_text h.rest));
       is =
-          ap (λ (pages : List HeardPage). page_lines (map with_text pages)) h.is
-          ∙ (ap page_lines (map-append with_text (heard (is_one_of capcodes) bits) h.rest) ∙ flat_map-append page_line (map with_text (heard (is_one_of capcodes) bits)) (map with_text h.rest));
+          ap (λ (pages : List HeardPage). shown_lines (shown has (map with_text pages))) h.is
+          ∙ (ap (λ (pages : List Page). shown_lines (shown has pages)) (map-append with_text (heard listens bits) h.rest)
+          ∙ shown-append has (map with_text (heard listens bits)) (map with_text h.rest));
     }
+
+pub play_lines-grow : (capcodes : List ℕ) → Grows (play_lines capcodes)
+play_lines-grow capcodes = lines_heard-grow (is_one_of capcodes) (is_paired (alone_from 1 capcodes))
 
 -- and so does `show`
 pub table_of-grow : Grows table_of

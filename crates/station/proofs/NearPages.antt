@@ -1,5 +1,5 @@
 -- The pages that are heard in slots near those of a schedule.
-use Rattle.std.proofs.Common.{◌≡◌, ℕ, zero, suc, ◌+◌, ◌^◌, ◌<◌, ◌≤◌, ◌==◌, nat_le, Bool, true, false, ◌&&◌, cond, List, [], ◌∷◌, ◌++◌, length, take, drop, map, Option, Some, None, option_map, arith, refl, sym, ◌∙◌, ap, ap₂, subst, inl, inr, append-nil, eqb-true, eq-eqb, le-leb, lit<}
+use Rattle.std.proofs.Common.{◌≡◌, ℕ, zero, suc, ◌+◌, ◌^◌, ◌<◌, ◌≤◌, nat_le, Bool, true, false, ◌&&◌, cond, List, [], ◌∷◌, ◌++◌, length, take, drop, map, Option, Some, None, option_map, arith, refl, sym, ◌∙◌, ap, ap₂, subst, inl, inr, append-nil, le-leb, lit<}
 use Rattle.std.specs.List.{filter, All}
 use Rattle.std.proofs.lemmas.Bool.{cases_Bool, and_left, both_ways}
 use Rattle.std.proofs.lemmas.List.{map-append, length-map}
@@ -16,7 +16,7 @@ use Rattle.codeword.specs.declared.functions.Function.TheVariants.{Numeric, Tone
 use Rattle.codeword.specs.declared.kinds.WordKind.{WordKind}
 use Rattle.codeword.specs.declared.kinds.WordKind.TheVariants.{Address, Message}
 use Rattle.codeword.specs.declared.words.TheConstants.{IDLE}
-use Rattle.codeword.specs.Capcodes.{high_of, frame_of, idle_high}
+use Rattle.codeword.specs.Capcodes.{high_of, idle_high}
 use Rattle.codeword.specs.Kinds.{kind_from, kind_of}
 use Rattle.codeword.specs.Words.{address_of, message_of}
 use Rattle.codeword.proofs.Carried.{address_of-codeword, address_of-lt, message_of-codeword, message_of-lt}
@@ -31,7 +31,7 @@ use Rattle.scheduler.specs.Slots.{Piece, Idle, Run, run, words, pages, place, fr
 use Rattle.scheduler.proofs.Pieces.{place-append}
 use Rattle.scheduler.proofs.Unique.{shift}
 use Rattle.receiver.specs.Heard.{HeardPage, with_text, frame_at, capcode_at, groups_with, groups_to_address, page_if, page_with, pages_from}
-use Rattle.station.specs.NearAir.{AreUsable, pages_of}
+use Rattle.station.specs.NearAir.{AreUsable}
 use Rattle.station.proofs.NearWords.{AreNear}
 
 -- ---- what the words of pieces say
@@ -247,7 +247,7 @@ pages_of_pieces listens start (Run page ∷ before) u p h =
     ∙ ap (λ (ys : List Page). map with_text (page_with listens start (Some (Address (high_of page.capcode) page.function)) (Some gs)) ++ ys) ih
     ∙ run_page listens start page (filter (λ page. listens page.capcode) (pages (before ++ Idle ∷ []))) p.0 a
 
--- ---- the pages of one capcode
+-- ---- the pages that a test keeps
 
 filter_step : (p q : Page → Bool) (x : Page) (xs : List Page) → (p x ≡ true → q x ≡ true) → filter p (filter q xs) ≡ filter p xs
     → filter p (filter q (x ∷ xs)) ≡ filter p (x ∷ xs)
@@ -263,11 +263,16 @@ filter_inner : (p q : Page → Bool) (xs : List Page) → ((x : Page) → p x �
 filter_inner p q [] h = refl
 filter_inner p q (x ∷ xs) h = filter_step p q x xs (h x) (filter_inner p q xs h)
 
--- What is heard in slots near those of a schedule: of each capcode that is listened to, the accepted pages, in order.
+-- a test that only pages of one frame pass, to capcodes that are listened to
+pub record IsKept (listens : ℕ → Bool) (f : ℕ) (kept : Page → Bool) : Type 0 where
+  pub frame : (page : Page) → kept page ≡ true → in_frame f page ≡ true
+  pub heard : (page : Page) → kept page ≡ true → listens page.capcode ≡ true
+
+-- What is heard in slots near those of a schedule: of the pages that such a test keeps, those that were accepted, in order.
 pub schedule_pages : (listens : ℕ → Bool) (accepted : List Page) (slots ws : List ℕ) → AreUsable listens → All IsAcceptable accepted
     → IsSchedule accepted slots → AreNear slots ws
-    → (c : ℕ) → listens c ≡ true → pages_of c (map with_text (pages_from listens 0 ws)) ≡ pages_of c accepted
-schedule_pages listens accepted slots ws u h s near c l =
+    → (f : ℕ) (kept : Page → Bool) → IsKept listens f kept → filter kept (map with_text (pages_from listens 0 ws)) ≡ filter kept accepted
+schedule_pages listens accepted slots ws u h s near f kept k =
     let before = s.layout.idle_last.0 in
     let e = s.layout.idle_last.1 in
     let ps = before ++ Idle ∷ [] in
@@ -276,12 +281,10 @@ schedule_pages listens accepted slots ws u h s near c l =
     let is : slots ≡ words ps = s.slots_are ∙ ap words e in
     let close : AreNear (words ps) ws = subst (λ (us : List ℕ). AreNear us ws) is near in
     let at : ArePlaced 0 ps = subst (ArePlaced 0) e (placed [] s.pieces 0 refl s.layout.whole) in
-    let frame_first : (x : Page) → (x.capcode == c) ≡ true → in_frame (frame_of c) x ≡ true = λ x t. let q = eqb-true x.capcode c t in eq-eqb (frame x) (frame_of c) (ap frame_of q) in
-    let heard_first : (x : Page) → (x.capcode == c) ≡ true → listens x.capcode ≡ true = λ x t. let q = eqb-true x.capcode c t in ap listens q ∙ l in
-    ap (λ (xs : List HeardPage). pages_of c (map with_text xs))
+    ap (λ (xs : List HeardPage). filter kept (map with_text xs))
     (pages_said-is listens 0 ws ∙ ap (pages_said listens 0) (near_kinds (words ps) ws (codewords-words ps ends) close ∙ kinds-words ps ends))
-    ∙ ap (pages_of c) (pages_of_pieces listens 0 before u at ends ∙ ap (λ (xs : List Piece). filter (λ page. listens page.capcode) (pages xs)) (sym e))
-    ∙ filter_inner (λ page. page.capcode == c) (λ page. listens page.capcode) (pages s.pieces) heard_first
-    ∙ sym (filter_inner (λ page. page.capcode == c) (in_frame (frame_of c)) (pages s.pieces) frame_first)
-    ∙ ap (pages_of c) (s.layout.fair (frame_of c))
-    ∙ filter_inner (λ page. page.capcode == c) (in_frame (frame_of c)) accepted frame_first
+    ∙ ap (filter kept) (pages_of_pieces listens 0 before u at ends ∙ ap (λ (xs : List Piece). filter (λ page. listens page.capcode) (pages xs)) (sym e))
+    ∙ filter_inner kept (λ page. listens page.capcode) (pages s.pieces) k.heard
+    ∙ sym (filter_inner kept (in_frame f) (pages s.pieces) k.frame)
+    ∙ ap (filter kept) (s.layout.fair f)
+    ∙ filter_inner kept (in_frame f) accepted k.frame

@@ -1,5 +1,5 @@
 -- What a run promises of the pages that receivers hear.
-use Rattle.std.proofs.Common.{◌≡◌, ℕ, ◌==◌, Bool, true, false, ◌||◌, List, [], ◌∷◌, Option, Some, None, Ok, refl, sym, ◌∙◌, ap, ap₂, subst, append-nil, eqb-true, ◌++◌, inl, inr}
+use Rattle.std.proofs.Common.{◌≡◌, ℕ, ◌==◌, Bool, true, false, ◌||◌, ◌&&◌, map, List, [], ◌∷◌, Option, Some, None, Ok, refl, sym, ◌∙◌, ap, ap₂, subst, append-nil, eqb-true, ◌++◌, inl, inr}
 use Rattle.std.proofs.lemmas.List.Elements.{All-nil, All-cons, All-head, All-tail}
 use Rattle.std.specs.Prelude.{◌⊎◌, IsTrue, All}
 use Rattle.bits.specs.Bits.{bytes_bits, xor}
@@ -10,7 +10,13 @@ use Rattle.subscribers.specs.Settings.{settings_of}
 use Rattle.air.proofs.Near.{near-airs}
 use Rattle.air.specs.Air.{IsAir}
 use Rattle.air.specs.Near.{IsAirs, Near}
+use Rattle.receiver.specs.Heard.{heard, with_text}
 use Rattle.receiver.specs.Listeners.{is_one_of}
+use Rattle.receiver.specs.Receivers.{is_listed, is_paired}
+use Rattle.receiver.specs.Shown.{pages_of_frame}
+use Rattle.receiver.proofs.Shown.{shown_by-shown}
+use Rattle.station.specs.PageLines.{alone_from}
+use Rattle.station.proofs.GroupsHeard.{listed-alone}
 use Rattle.wires.specs.Files.{Files}
 use Rattle.wires.specs.Left.{Left}
 use Rattle.wires.specs.Stacked.{noisy_bits}
@@ -43,8 +49,21 @@ AreUsable-words (w ∷ words) (c ∷ capcodes) h x k = usable_or c x capcodes (c
 
 -- ---- near transmissions
 
+-- a paired capcode is listed
+paired-listed : (pairs : List (ℕ × ℕ)) (number c : ℕ) → is_paired pairs number c ≡ true → is_listed pairs c ≡ true
+paired-listed [] number c h = h
+paired-listed (pair ∷ pairs) number c h = one (pair.0 == number) (pair.1 == c) (paired-listed pairs number c) h
+  where
+    one : (a b : Bool) → (is_paired pairs number c ≡ true → is_listed pairs c ≡ true) → ((a && b) || is_paired pairs number c) ≡ true → (b || is_listed pairs c) ≡ true
+    one a true later e = refl
+    one true false later e = later e
+    one false false later e = later e
+
 HearNear-from : (capcodes : List ℕ) (bits : List Bool) → AreUsable (is_one_of capcodes) → HearNear capcodes bits
-HearNear-from capcodes bits u lists h near = near_air (is_one_of capcodes) lists bits u h near
+HearNear-from capcodes bits u lists h near number f some most =
+    let has = is_paired (alone_from 1 capcodes) in
+    ap (pages_of_frame f) (shown_by-shown has number (map with_text (heard (is_one_of capcodes) bits)) some most)
+    ∙ near_air (is_one_of capcodes) lists bits u h near (has number) f (λ c held. sym (listed-alone 1 capcodes c) ∙ paired-listed (alone_from 1 capcodes) number c held)
 
 -- ---- a trial
 

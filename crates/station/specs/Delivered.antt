@@ -4,6 +4,7 @@ use Rattle.std.specs.List.{AllByRecursion}
 use Rattle.page_text.specs.Page.{Page as Accepted}
 use Rattle.air.specs.Near.{Near}
 use Rattle.receiver.specs.Heard.{with_text, heard}
+use Rattle.receiver.specs.Shown.{pages_in, pages_of_frame}
 use Rattle.subscribers.specs.Parts.{Parts}
 use Rattle.subscribers.specs.Settings.{settings_of}
 use Rattle.subscribers.specs.declared.subscriber.Subscriber.{Subscriber}
@@ -16,7 +17,7 @@ use Rattle.tap_entry.specs.PagesFile.{IsPassword}
 use Rattle.tap_entry.specs.declared.hearing.Mark.{Mark}
 use Rattle.tap_entry.specs.declared.outcomes.Outcome.{Outcome}
 use Rattle.station.specs.Joined.{sent_of}
-use Rattle.station.specs.NearAir.{AreUsable, pages_of}
+use Rattle.station.specs.NearAir.{AreUsable}
 use Rattle.station.specs.Sessions.{SessionOf}
 
 -- A client calls the terminal of these settings, and each hears what the other says: the client has these marks of the replies, and
@@ -60,5 +61,5 @@ abbrev pub Delivered : Type 0
 Delivered =
     (bytes : List ℕ) (settings : Parts) (spare : ℕ) (calls : List (Call settings spare)) (listens : ℕ → Bool) (bits : List Bool)
     → settings_of bytes ≡ Ok settings → AreUsable listens → Near (accepted_by calls) bits
-    → (capcode : ℕ) → listens capcode ≡ true
-    → pages_of capcode (map with_text (heard listens bits)) ≡ pages_of capcode (sent_by calls)
+    → (set : ℕ → Bool) (f : ℕ) → ((capcode : ℕ) → set capcode ≡ true → listens capcode ≡ true)
+    → pages_of_frame f (pages_in set (map with_text (heard listens bits))) ≡ pages_of_frame f (pages_in set (sent_by calls))

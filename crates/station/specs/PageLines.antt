@@ -1,9 +1,12 @@
 -- The pages that are heard, as they are printed. docs/profile.md, "printed line".
-use Rattle.std.specs.Prelude.{ℕ, Bool, List, map, flat_map}
-use Rattle.page_text.specs.Line.{line_of}
+use Rattle.std.specs.Prelude.{ℕ, suc, Bool, List, [], ◌∷◌, ◌++◌, map, flat_map}
+use Rattle.codeword.specs.declared.functions.Function.{Function}
+use Rattle.page_text.specs.Line.{decimal_digits, line_of}
 use Rattle.page_text.specs.Page.{Page}
 use Rattle.receiver.specs.Heard.{heard, with_text}
-use Rattle.receiver.specs.Listeners.{is_one_of}
+use Rattle.receiver.specs.Listeners.{Listener, is_one_of}
+use Rattle.receiver.specs.Receivers.{has_in, is_paired}
+use Rattle.receiver.specs.Shown.{shown}
 
 -- the printed line of a page
 abbrev pub page_line : Page → List ℕ
@@ -17,6 +20,39 @@ page_lines pages = flat_map page_line pages
 abbrev pub pages_heard : List ℕ → List Bool → List Page
 pages_heard capcodes bits = map with_text (heard (is_one_of capcodes) bits)
 
--- what receivers of these capcodes print of the bits
+-- a receiver's number in two digits, and a space
+abbrev pub number_text : ℕ → List ℕ
+number_text number = decimal_digits 2 number ++ 32 ∷ []
+
+-- the printed line of a page that a receiver shows: the receiver's number, and the line of the page
+abbrev pub shown_line : ℕ × Page → List ℕ
+shown_line pair = number_text pair.0 ++ page_line pair.1
+
+-- the printed lines of pages that receivers show, one after another
+abbrev pub shown_lines : List (ℕ × Page) → List ℕ
+shown_lines pairs = flat_map shown_line pairs
+
+-- the printed lines of a page with this text, of receivers with these numbers
+abbrev pub lines_for : ℕ → Function → List ℕ → List ℕ → List ℕ
+lines_for capcode function text numbers = flat_map (λ number. number_text number ++ line_of capcode function text) numbers
+
+-- what receivers print of the bits: `listens` says which capcodes any of them has, and `has` which receiver, by its number, has which
+abbrev pub lines_heard : (ℕ → Bool) → (ℕ → ℕ → Bool) → List Bool → List ℕ
+lines_heard listens has bits = shown_lines (shown has (map with_text (heard listens bits)))
+
+-- what the receivers of a group print of the bits
+abbrev pub group_lines : Listener → List Bool → List ℕ
+group_lines group = lines_heard (is_one_of group.capcodes) (has_in group.holders)
+
+-- each of these capcodes with the number of a receiver that has no other, numbered from a number on
+abbrev pub alone_from : ℕ → List ℕ → List (ℕ × ℕ)
+alone_from number [] = []
+alone_from number (capcode ∷ capcodes) = (number, capcode) ∷ alone_from (suc number) capcodes
+
+-- the pages that are heard in the bits by receivers of one of these capcodes each, each with the numbers of its receivers
+abbrev pub pairs_heard : List ℕ → List Bool → List (ℕ × Page)
+pairs_heard capcodes bits = shown (is_paired (alone_from 1 capcodes)) (pages_heard capcodes bits)
+
+-- what receivers print of the bits that have one of these capcodes each, and are numbered in their order
 abbrev pub play_lines : List ℕ → List Bool → List ℕ
-play_lines capcodes bits = page_lines (pages_heard capcodes bits)
+play_lines capcodes = lines_heard (is_one_of capcodes) (is_paired (alone_from 1 capcodes))

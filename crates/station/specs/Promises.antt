@@ -1,10 +1,12 @@
 -- What a run promises of the pages that receivers hear.
-use Rattle.std.specs.Prelude.{◌≡◌, ℕ, ◌⊎◌, Bool, true, false, List, [], ◌∷◌, ◌++◌, map, IsTrue, All}
+use Rattle.std.specs.Prelude.{◌≡◌, ℕ, ◌≤◌, ◌⊎◌, Bool, false, List, [], ◌∷◌, ◌++◌, map, IsTrue, All}
 use Rattle.std.proofs.Common.{inl, inr}
 use Rattle.bits.specs.Bits.{bytes_bits}
 use Rattle.page_text.specs.Page.{Page, IsAcceptable}
 use Rattle.air.specs.Near.{IsAirs, Near}
 use Rattle.receiver.specs.Listeners.{is_one_of}
+use Rattle.receiver.specs.Receivers.{is_paired, most_receivers}
+use Rattle.receiver.specs.Shown.{pages_in, pages_of_frame, shown_by}
 use Rattle.subscribers.specs.Parts.{Parts}
 use Rattle.wires.specs.Files.{Files}
 use Rattle.wires.specs.Left.{Left}
@@ -13,16 +15,18 @@ use Rattle.wires.specs.Written.{Written}
 use Rattle.station.specs.declared.outcomes.Outcome.{Outcome}
 use Rattle.station.specs.declared.outcomes.Outcome.TheVariants.{Ended}
 use Rattle.station.specs.declared.statuses.Status.TheVariants.{Done, FileFault, OutFault, WireFault}
-use Rattle.station.specs.NearAir.{AreUsable, joined, pages_of}
-use Rattle.station.specs.PageLines.{pages_heard}
+use Rattle.station.specs.NearAir.{AreUsable, joined}
+use Rattle.station.specs.PageLines.{alone_from, pairs_heard}
 use Rattle.station.specs.Served.{Served, airs}
 use Rattle.station.specs.ReadFile.{Unreadable}
 use Rattle.station.specs.Serving.{Around, AtAppendFault, AtFreshFault}
 use Rattle.station.specs.StationRows.{KeepsAround, ServedBy, StationRow, TrialRow, with_shelf}
 
--- Of each of these capcodes exactly its pages in these lists are heard in the bits, in order, each with its text.
+-- What each receiver, by its number, prints of each frame are exactly the pages of its capcodes in these lists, in order, each with its
+-- text.
 abbrev pub HearLists : List ℕ → List (List Page) → List Bool → Type 0
-HearLists capcodes lists bits = (capcode : ℕ) → is_one_of capcodes capcode ≡ true → pages_of capcode (pages_heard capcodes bits) ≡ pages_of capcode (joined lists)
+HearLists capcodes lists bits = (number f : ℕ) → 1 ≤ number → number ≤ most_receivers
+    → pages_of_frame f (shown_by number (pairs_heard capcodes bits)) ≡ pages_of_frame f (pages_in (is_paired (alone_from 1 capcodes) number) (joined lists))
 
 -- This is so where the bits are near the transmissions of lists of acceptable pages: every preamble is as it was sent, and every word
 -- after it has at most two wrong bits.

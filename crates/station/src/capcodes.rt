@@ -1,6 +1,6 @@
 //! The capcodes that a command line lists.
 
-ghost use Rattle.std.specs.Prelude.{◌≡◌, ℕ, ◌<◌, ◌++◌, ◌∷◌, [], List, length, Option, MatchOption, SomeIff, IsTrue, ◌↔◌};
+ghost use Rattle.std.specs.Prelude.{◌≡◌, ℕ, ◌<◌, ◌≤◌, ◌++◌, ◌∷◌, [], List, length, Option, MatchOption, SomeIff, IsTrue, ◌↔◌};
 ghost use Rattle.station.specs.Commands.{AreCapcodeWords, IsCapcodeWord, texts};
 
 use codeword::Capcode;
@@ -42,7 +42,8 @@ impl Capcodes {
 
     /// The capcodes.
     pub(crate) fn as_slice(&self) -> &[Capcode]
-        ensures { result.now ≡ self.now }
+        ensures value { result.now ≡ self.now }
+        ensures few { length result.now ≤ 64 }
     {
         &self.items[..self.count]
     }

@@ -3,7 +3,7 @@
 ghost use Rattle.std.specs.Prelude.{◌≡◌, []};
 ghost use Rattle.receiver.specs.Listeners.{StandsFor};
 ghost use Rattle.station.specs.HeardFile.{HearsFile};
-ghost use Rattle.station.specs.PageLines.{play_lines};
+ghost use Rattle.station.specs.PageLines.{group_lines};
 ghost use Rattle.station.specs.Table.{table_of};
 
 use crate::playing::{play, show};
@@ -21,7 +21,7 @@ pub(crate) fn play_file<F: Shelf, O: Sink>(
     out: &mut O,
 ) -> Status
     requires { StandsFor group.old [] }
-    ensures { HearsFile (play_lines group.old.capcodes) name.now (F.state shelf.old) (F.state shelf.new) (O.state out.old) (O.state out.new) result }
+    ensures { HearsFile (group_lines group.old) name.now (F.state shelf.old) (F.state shelf.new) (O.state out.old) (O.state out.new) result }
 {
     let mut bits = ShelfBits::over(shelf, name);
     play(&mut bits, group, out)

@@ -23,7 +23,7 @@ pub fn one_answer()
 {}
 
 /// Where every preamble is heard as it was sent, and every word after it with at most two wrong bits, a receiver hears exactly the
-/// accepted pages of its capcodes, whole, and for each capcode in order. Transmissions that are heard as they were sent are near.
+/// accepted pages of its capcodes, whole, and those of one frame in order. Transmissions that are heard as they were sent are near.
 pub fn near_air()
     ensures near { NearAir }
     ensures clean { CleanAir }
@@ -37,7 +37,7 @@ pub fn joined()
 
 /// From clients to receivers: where clients and the terminal of a station hear one another, and the transmissions of what it accepted
 /// are heard with every preamble as it was sent and with at most two wrong bits in every other word, a receiver hears exactly the pages
-/// that the clients mark Sent to its capcodes, whole, and for each capcode in order.
+/// that the clients mark Sent to its capcodes, whole, and those of one frame in order.
 pub fn delivered()
     ensures { Delivered }
 {}

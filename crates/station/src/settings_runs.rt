@@ -2,7 +2,7 @@
 
 ghost use Rattle.std.specs.Prelude.{◌≡◌, []};
 ghost use Rattle.receiver.specs.Listeners.{StandsFor as HasHeard};
-ghost use Rattle.station.specs.PageLines.{play_lines};
+ghost use Rattle.station.specs.PageLines.{group_lines};
 ghost use Rattle.page_pool.specs.Pool.{cells};
 ghost use Rattle.station.specs.StationRows.{ComesTo, StationRow, TrialRow, TriesFile};
 
@@ -10,6 +10,7 @@ use crate::capcodes::Capcodes;
 use crate::commands::StationLine;
 use crate::opening::{Unopened, read_settings};
 use crate::outcomes::Outcome;
+use crate::playing::group_of;
 use crate::session::Station;
 use crate::statuses::Status;
 use receiver::Group;
@@ -70,7 +71,7 @@ pub(crate) fn run_trial<F: Shelf, I: Source, O: Sink>(
         Ok(settings) => settings,
         Err(why) => return without_settings(why),
     };
-    let Ok(mut group) = Group::new(alloc, capcodes.as_slice()) else {
+    let Ok(mut group) = group_of(alloc, capcodes.as_slice()) else {
         return Outcome::Ended(Status::Memory);
     };
     let Ok(mut station) = Station::new(alloc, settings) else {
@@ -89,7 +90,7 @@ fn try_file<F: Shelf, I: Source, O: Sink>(
     out: &mut O,
 ) -> Status
     requires { HasHeard group.old [] }
-    ensures { TriesFile station.old.settings (cells station.old.pool) (play_lines group.old.capcodes) noise.now (I.state input.old) (I.state input.new) (F.state shelf.old) (F.state shelf.new)
+    ensures { TriesFile station.old.settings (cells station.old.pool) (group_lines group.old) noise.now (I.state input.old) (I.state input.new) (F.state shelf.old) (F.state shelf.new)
         (O.state out.old) (O.state out.new) result }
 {
     let mut bits = ShelfBits::over(shelf, noise);

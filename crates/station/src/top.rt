@@ -13,9 +13,9 @@ use crate::hearing::{play_file, show_file};
 use crate::one_page::one;
 use crate::outcomes::{Outcome, tell_outcome};
 use crate::pages_runs::run_send;
+use crate::playing::group_of;
 use crate::settings_runs::{run_station, run_trial};
 use crate::statuses::Status;
-use receiver::Group;
 use std::alloc::Global;
 use wires::Memory;
 use wires::shelf::Shelf;
@@ -64,7 +64,7 @@ fn play_air<F: Shelf, O: Sink>(
 ) -> Status
     ensures { Plays (play_lines capcodes.now) air.now (F.state shelf.old) (F.state shelf.new) (O.state out.old) (O.state out.new) result }
 {
-    match Group::new(alloc, capcodes.as_slice()) {
+    match group_of(alloc, capcodes.as_slice()) {
         Ok(mut group) => play_file(shelf, air, &mut group, out),
         Err(Memory) => Status::Memory,
     }

@@ -3,7 +3,7 @@
 ghost use Rattle.std.specs.Prelude.{◌≡◌, []};
 ghost use Rattle.page_pool.specs.Pool.{cells, pages};
 ghost use Rattle.receiver.specs.Listeners.{StandsFor as HasHeard};
-ghost use Rattle.station.specs.PageLines.{play_lines};
+ghost use Rattle.station.specs.PageLines.{group_lines};
 ghost use Rattle.station.specs.Trying.{HearsPages, Tries};
 
 use crate::answering::InputEnd;
@@ -38,7 +38,7 @@ impl Station {
     ) -> Status
         requires { HasHeard group.old [] }
         ensures settings { self.new.settings ≡ self.old.settings }
-        ensures tries { Tries self.old.settings (cells self.old.pool) (play_lines group.old.capcodes) (I.state input.old) (I.state input.new) (N.state noise.old) (N.state noise.new) (O.state out.old) (O.state out.new) result }
+        ensures tries { Tries self.old.settings (cells self.old.pool) (group_lines group.old) (I.state input.old) (I.state input.new) (N.state noise.old) (N.state noise.new) (O.state out.old) (O.state out.new) result }
     {
         self.pool.clear();
         match self.answer_input(input, out) {
@@ -61,7 +61,7 @@ fn hear_pages<N: BitSource, O: Sink>(
     out: &mut O,
 ) -> Status
     requires { HasHeard group.old [] }
-    ensures { HearsPages (pages pool.old) (play_lines group.old.capcodes) (N.state noise.old) (N.state noise.new) (O.state out.old) (O.state out.new) result }
+    ensures { HearsPages (pages pool.old) (group_lines group.old) (N.state noise.old) (N.state noise.new) (O.state out.old) (O.state out.new) result }
 {
     if pool.count() == 0 {
         return Status::Done;

@@ -19,7 +19,7 @@ returns-then-is_full c =
       | then-is_full-via-then-is_full w ↦ refuse_full _ _ _ _ c.loop-word.capcodes c.loop-word.invariant.say at.0 (w.if-is_full.ensures.0 refl)
       | then-is_full-via-else-is_full+then-contains w ↦
           refuse_twice _ _ _ _ c.loop-word.capcodes c.in_ok-capcode.capcode c.loop-word.invariant.say at.0
-          (subst (λ (w : List ℕ). IsCapcodeWord w c.in_ok-capcode.capcode) c.as_str-in-loop-word.ensures.value c.in_ok-capcode.ensures) (subst (λ (xs : List ℕ). list_any (λ d. d == c.in_ok-capcode.capcode) xs ≡ true) w.as_slice.ensures (sym w.contains.ensures.value ∙ w.if-contains.true))
+          (subst (λ (w : List ℕ). IsCapcodeWord w c.in_ok-capcode.capcode) c.as_str-in-loop-word.ensures.value c.in_ok-capcode.ensures) (subst (λ (xs : List ℕ). list_any (λ d. d == c.in_ok-capcode.capcode) xs ≡ true) w.as_slice.ensures.value (sym w.contains.ensures.value ∙ w.if-contains.true))
     ]
 
 pub push-requires : goal.push-requires
@@ -34,7 +34,7 @@ loop-word-preserved c =
       say = rw (at.1, c.push.ensures) (Say-more _ _ c.loop-word.capcodes c.in_ok-capcode.capcode c.loop-word.invariant.say own);
       many = omega (arith, ap length c.push.ensures, length-append c.loop-word.capcodes (c.in_ok-capcode.capcode ∷ []), c.loop-word.invariant.many);
       few = omega (arith, ap length c.push.ensures, length-append c.loop-word.capcodes (c.in_ok-capcode.capcode ∷ []), less);
-      differ = rw c.push.ensures (Differ-more c.loop-word.capcodes c.in_ok-capcode.capcode c.loop-word.invariant.differ (subst (λ (xs : List ℕ). list_any (λ d. d == c.in_ok-capcode.capcode) xs ≡ false) c.as_slice.ensures (sym c.if-contains.ensures.value)));
+      differ = rw c.push.ensures (Differ-more c.loop-word.capcodes c.in_ok-capcode.capcode c.loop-word.invariant.differ (subst (λ (xs : List ℕ). list_any (λ d. d == c.in_ok-capcode.capcode) xs ≡ false) c.as_slice.ensures.value (sym c.if-contains.ensures.value)));
     }
 
 pub returns : goal.returns

@@ -1,15 +1,15 @@
 use Rattle.std.proofs.Common.{ap, rules}
 use Rattle.page_pool.specs.Pool.{cells}
-use Rattle.station.specs.PageLines.{play_lines}
+use Rattle.station.specs.PageLines.{group_lines}
 use Rattle.station.specs.StationRows.{TriesFile}
 use Rattle.station.proofs.SettingsRuns.{tries_file}
 use Rattle.station.proofs.settings_runs.try_file.Goals as goal
 
 pub returns : goal.returns
 returns g c =
-    let h : TriesFile c.args.station.now.settings (cells c.args.station.now.pool) (play_lines c.args.group.now.capcodes) c.args.noise.now (g.I.Source.state c.args.input.now)
+    let h : TriesFile c.args.station.now.settings (cells c.args.station.now.pool) (group_lines c.args.group.now) c.args.noise.now (g.I.Source.state c.args.input.now)
     (g.I.Source.state c.trial.new.input) (g.F.Shelf.state c.args.shelf.now) (g.F.Shelf.state c.trial.new.noise.shelf.now) (g.O.Sink.state c.args.out.now) (g.O.Sink.state c.trial.new.out) c.trial.result
-    = tries_file _ _ (play_lines c.args.group.now.capcodes) _ _ c.args.noise.now _ _ _ _ _ _ _ _ (g.F.Shelf.state c.args.shelf.now) (g.F.Shelf.state c.over-bits.result.shelf.now)
+    = tries_file _ _ (group_lines c.args.group.now) _ _ c.args.noise.now _ _ _ _ _ _ _ _ (g.F.Shelf.state c.args.shelf.now) (g.F.Shelf.state c.over-bits.result.shelf.now)
     (g.F.Shelf.state c.trial.new.noise.shelf.now) (g.O.Sink.state c.args.out.now) (g.O.Sink.state c.trial.new.out) c.trial.result
     c.over-bits.ensures.ready c.over-bits.ensures.from c.over-bits.ensures.name (ap g.F.Shelf.state c.over-bits.ensures.same) c.trial.ensures.tries in
     search (rules, h)
