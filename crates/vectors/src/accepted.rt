@@ -18,7 +18,7 @@ pub(crate) const ACCEPTED: [Row; 13] = [
         line: HELLO_LINE,
         air: Air::Words(1, HELLO),
         capcodes: &["8"],
-        pages: b"0000008 A HELLO\n",
+        pages: b"01 0000008 A HELLO\n",
     },
     Row {
         settings: S1,
@@ -39,7 +39,7 @@ pub(crate) const ACCEPTED: [Row; 13] = [
         line: b"session 1 ended pages 1 continued 0 nak 1 body 0 content 0 form 0 unknown 0 text 0 room 0 wrong 0\n",
         air: Air::Words(1, HELLO),
         capcodes: &["8"],
-        pages: b"0000008 A HELLO\n",
+        pages: b"01 0000008 A HELLO\n",
     },
     Row {
         settings: S1,
@@ -51,7 +51,7 @@ pub(crate) const ACCEPTED: [Row; 13] = [
         line: HELLO_LINE,
         air: Air::Words(1, HELLO),
         capcodes: &["8"],
-        pages: b"0000008 A HELLO\n",
+        pages: b"01 0000008 A HELLO\n",
     },
     Row {
         settings: S1,
@@ -63,7 +63,7 @@ pub(crate) const ACCEPTED: [Row; 13] = [
         line: b"session 1 ended pages 1 continued 0 nak 0 body 0 content 0 form 0 unknown 0 text 1 room 0 wrong 0\n",
         air: Air::Words(1, &[(2, 0x0000_26EC), (3, 0xC219_9DEA)]),
         capcodes: &["9"],
-        pages: b"0000009 N 12\n",
+        pages: b"01 0000009 N 12\n",
     },
     Row {
         settings: S1,
@@ -72,7 +72,7 @@ pub(crate) const ACCEPTED: [Row; 13] = [
         line: HELLO_LINE,
         air: Air::Words(1, &[(2, 0x0000_26EC)]),
         capcodes: &["9"],
-        pages: b"0000009 N \n",
+        pages: b"01 0000009 N \n",
     },
     Row {
         settings: S1,
@@ -84,7 +84,7 @@ pub(crate) const ACCEPTED: [Row; 13] = [
         line: b"session 1 ended pages 1 continued 1 nak 0 body 0 content 0 form 0 unknown 0 text 0 room 0 wrong 0\n",
         air: Air::Ends(1, 13),
         capcodes: &["8"],
-        pages: b"0000008 A A\\rB\n",
+        pages: b"01 0000008 A A\\rB\n",
     },
     Row {
         settings: SMALL,
@@ -96,7 +96,7 @@ pub(crate) const ACCEPTED: [Row; 13] = [
         line: b"session 1 ended pages 1 continued 0 nak 0 body 0 content 0 form 0 unknown 0 text 0 room 1 wrong 0\n",
         air: Air::Ends(2, 8),
         capcodes: &["8"],
-        pages: b"0000008 A AAAAAAAAAAAAAAAAAAAAAAAAAAAAAAAAAAAAAAAAAAAAAAAAAAAAAAAAAAAAAAAA\n",
+        pages: b"01 0000008 A AAAAAAAAAAAAAAAAAAAAAAAAAAAAAAAAAAAAAAAAAAAAAAAAAAAAAAAAAAAAAAAA\n",
     },
     Row {
         settings: S1,
@@ -108,7 +108,7 @@ pub(crate) const ACCEPTED: [Row; 13] = [
         line: b"session 1 ended pages 3 continued 0 nak 0 body 0 content 0 form 0 unknown 0 text 0 room 0 wrong 0\n",
         air: Air::Words(1, &[(0, 0x0000_283F), (1, 0x0000_4DD8), (14, 0x0000_283F)]),
         capcodes: &["8", "15", "16"],
-        pages: b"0000008 1 \n0000016 1 \n0000015 1 \n",
+        pages: b"01 0000008 1 \n03 0000016 1 \n02 0000015 1 \n",
     },
     Row {
         settings: S1,
@@ -120,7 +120,7 @@ pub(crate) const ACCEPTED: [Row; 13] = [
         line: b"session 1 ended pages 3 continued 0 nak 0 body 0 content 0 form 0 unknown 0 text 0 room 0 wrong 0\n",
         air: Air::Words(2, &[(0, 0x0000_283F), (1, 0x0000_283F), (16, 0x0000_4DD8)]),
         capcodes: &["8", "16"],
-        pages: b"0000008 1 \n0000008 1 \n0000016 1 \n",
+        pages: b"01 0000008 1 \n01 0000008 1 \n02 0000016 1 \n",
     },
     Row {
         settings: S1,
@@ -129,7 +129,7 @@ pub(crate) const ACCEPTED: [Row; 13] = [
         line: HELLO_LINE,
         air: Air::Words(2, &[(14, 0x0000_3B49), (15, 0xC100_057F)]),
         capcodes: &["8", "15"],
-        pages: b"0000015 A A\n",
+        pages: b"02 0000015 A A\n",
     },
     Row {
         settings: S1,
@@ -141,7 +141,7 @@ pub(crate) const ACCEPTED: [Row; 13] = [
         line: b"session 1 ended pages 2 continued 0 nak 0 body 0 content 0 form 0 unknown 0 text 0 room 0 wrong 0\n",
         air: Air::Words(2, &[(14, 0x0000_283F), (15, 0x0000_283F)]),
         capcodes: &["15"],
-        pages: b"0000015 1 \n0000015 1 \n",
+        pages: b"01 0000015 1 \n01 0000015 1 \n",
     },
     Row {
         settings: S1,

@@ -2,9 +2,13 @@
 
 use crate::airs::{ABC, push_air, push_preamble, push_words};
 use crate::runs::{Left, Object, Objects, files, run_over};
-use station::Status;
+use codeword::Capcode;
+use receiver::Group;
+use station::{Status, play};
 use std::alloc::{AllocError, Global};
 use std::test::Fail;
+use wires::byte_bits::ByteBits;
+use wires::fakes::{MemorySink, MemorySource};
 
 /// Runs the program with these words over a shelf that has these bytes as its file `air.bin`.
 fn heard(
@@ -41,9 +45,9 @@ type Row = (
     &'static [u8],
 );
 
-const ONCE: &[u8] = b"0000008 A ABC\n";
+const ONCE: &[u8] = b"01 0000008 A ABC\n";
 
-const TWICE: &[u8] = b"0000008 A ABC\n0000008 A ABC\n";
+const TWICE: &[u8] = b"01 0000008 A ABC\n01 0000008 A ABC\n";
 
 const PLAY: &[&str] = &["play", "air.bin", "8"];
 
@@ -110,5 +114,28 @@ fn the_table_counts_batches_over_all_locks(rt: HostRuntime) -> Result<(), Fail> 
     let left = heard(rt.alloc(), &["show", "air.bin"], &air, &[])?;
     assert_eq!(rt; left.status, Status::Done);
     assert_eq!(rt; left.out.as_slice(), CUT_TABLE);
+    Ok(())
+}
+
+/// The receivers 1 of the capcodes 8 and 15, and 2 of 16 and 8, over the tones to 8, 16 and 15.
+#[test]
+fn receivers_share_a_capcode(rt: HostRuntime) -> Result<(), Fail> {
+    let mut air = Vec::new(rt.alloc());
+    let tones = [(0, 0x0000_283F), (1, 0x0000_4DD8), (14, 0x0000_283F)];
+    push_air(&mut air, 1, &tones, 0)?;
+    let [eight, fifteen, sixteen] = [8, 15, 16].map(Capcode::of);
+    let eight = eight.expect(&rt, "a usable capcode");
+    let fifteen = fifteen.expect(&rt, "a usable capcode");
+    let sixteen = sixteen.expect(&rt, "a usable capcode");
+    let pairs = [(1, eight), (1, fifteen), (2, sixteen), (2, eight)];
+    let mut group = Group::new(rt.alloc(), &pairs)?;
+    let mut bits = ByteBits::over(MemorySource::new(rt.alloc(), &air, 1, &[])?);
+    let mut out = MemorySink::new(rt.alloc(), 100, &[])?;
+    let status = play(&mut bits, &mut group, &mut out);
+    assert_eq!(rt; status, Status::Done);
+    assert_eq!(rt;
+        out.bytes(),
+        b"01 0000008 1 \n02 0000008 1 \n02 0000016 1 \n01 0000015 1 \n".as_slice()
+    );
     Ok(())
 }

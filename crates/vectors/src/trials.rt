@@ -35,7 +35,7 @@ const THREE_WRONG: &[u32] = &[
 const ANSWERS: &[u8] = b"ID\nGO\nACK\nEND\n---\n";
 
 /// The same, and the line of its page.
-const HEARD: &[u8] = b"ID\nGO\nACK\nEND\n---\n0000008 A HELLO\n";
+const HEARD: &[u8] = b"ID\nGO\nACK\nEND\n---\n01 0000008 A HELLO\n";
 
 /// The capcodes; the noise behind 72 bytes 0, or none where the file isn't there; the calls that fail; the status, what is printed,
 /// and the line about the status.
