@@ -26,10 +26,10 @@ use Rattle.tap_block.specs.declared.ends.End.TheVariants.{Etx, Etb, Us}
 use Rattle.tap_block.specs.Chars.{char_of, characters}
 use Rattle.tap_terminal.specs.Replies.{replies}
 use Rattle.station.proofs.JoinedLimit.{closing_one, items_few, replies_short, told_few}
-use Rattle.tap_terminal.specs.Desk.{directory_of}
+use Rattle.subscribers.specs.Directory.{Directory, directory_of}
 use Rattle.tap_terminal.specs.Session.{answers_of, closing, Course, Decided, Session, Told, cells_for_page, decide, is_end, pages_of, start, tell}
-use Rattle.tap_terminal.specs.Texts.{fits}
-use Rattle.tap_terminal.specs.Verdict.{Directory, Verdict, by_end, fields_for, refused, room_for, text_for, values_of, verdict}
+use Rattle.page_text.specs.FitTest.{fits}
+use Rattle.tap_terminal.specs.Verdict.{Verdict, by_end, fields_for, refused, room_for, text_for, values_of, verdict}
 use Rattle.tap_terminal.specs.declared.answers.Answer.TheVariants.{Ack, Nak}
 use Rattle.tap_terminal.specs.declared.answers.Reason.TheVariants.{Body, Content, Room, Text}
 use Rattle.station.specs.AirRoom.{AirsFit, ShelfFits, WireFits, most_air}

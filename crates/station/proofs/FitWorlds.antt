@@ -14,7 +14,7 @@ use Rattle.tap_block.specs.Chars.{characters}
 use Rattle.tap_entry.specs.declared.faults.PagesFault.{PagesFault}
 use Rattle.tap_entry.specs.declared.faults.PagesFault.TheVariants as Pages
 use Rattle.tap_entry.specs.PagesFile.{IsRefused, IsWrongLine}
-use Rattle.tap_terminal.specs.Desk.{directory_of}
+use Rattle.subscribers.specs.Directory.{directory_of}
 use Rattle.tap_terminal.specs.Replies.{replies}
 use Rattle.tap_terminal.specs.Session.{Session}
 use Rattle.tap_terminal.proofs.Fronts.{session_exists}

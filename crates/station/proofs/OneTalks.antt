@@ -6,7 +6,7 @@ use Rattle.std.proofs.lemmas.List.Folds.{list_any-append}
 use Rattle.subscribers.specs.Parts.{Parts}
 use Rattle.tap_block.specs.Chars.{char_of, characters}
 use Rattle.tap_terminal.specs.declared.answers.Answer.{Answer}
-use Rattle.tap_terminal.specs.Desk.{directory_of}
+use Rattle.subscribers.specs.Directory.{directory_of}
 use Rattle.tap_terminal.specs.Replies.{replies}
 use Rattle.tap_terminal.specs.Session.{IsSession, Session, is_end}
 use Rattle.tap_terminal.proofs.Fronts.{fronts}

@@ -9,7 +9,7 @@ use Rattle.subscribers.specs.Parts.{Parts}
 use Rattle.subscribers.specs.Settings.{settings_of}
 use Rattle.subscribers.specs.declared.faults.SettingsFault.{SettingsFault}
 use Rattle.tap_block.specs.Chars.{char_of, characters}
-use Rattle.tap_terminal.specs.Desk.{directory_of}
+use Rattle.subscribers.specs.Directory.{directory_of}
 use Rattle.tap_terminal.specs.Session.{IsSession, Session}
 use Rattle.tap_terminal.proofs.Fronts.{fronts, session_exists}
 use Rattle.tap_terminal.proofs.Sessions.{one_session}
