@@ -28,10 +28,6 @@ abbrev pub Fed : Parts → ℕ → Desk → List ℕ → ℕ → Session → Ans
 Fed settings spare desk bytes byte session answer before after =
     HearsOn settings.password (directory_of settings) spare desk (characters bytes) (char_of byte) session answer before after
 
--- the characters of one byte more
-pub characters_on : (bytes : List ℕ) (byte : ℕ) → characters (bytes ++ byte ∷ []) ≡ characters bytes ++ char_of byte ∷ []
-characters_on bytes byte = map-append char_of bytes (byte ∷ [])
-
 -- the reply to what is said
 replies-said : (a : Answer) → replies (said a) ≡ reply_of a
 replies-said Nothing = refl

@@ -1,10 +1,11 @@
-pub mod First
-pub mod LoneBlocks
-pub mod OneReading
+pub mod Characters
 pub mod Exists
+pub mod First
 pub mod Fronts
 pub mod Grows
+pub mod LoneBlocks
+pub mod OneReading
 pub mod Parts
+mod Rows
 pub mod Values
 pub mod WholeBlocks
-mod Rows
