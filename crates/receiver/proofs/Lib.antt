@@ -2,6 +2,7 @@ pub mod Capcodes
 pub mod Feeding
 pub mod FrontSteps
 pub mod Fronts
+pub mod Growing
 pub mod Heard
 pub mod Hunts
 pub mod Listens

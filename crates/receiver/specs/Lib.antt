@@ -1,6 +1,7 @@
 pub mod FrontSteps
 pub mod Fronts
 pub mod Gathering
+pub mod Growing
 pub mod Heard
 pub mod Listeners
 pub mod Locks

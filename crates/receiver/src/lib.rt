@@ -11,7 +11,7 @@
 //! - `ready`: what is answered of a page that is complete.
 //! - `receiver`: a receiver of one to four capcodes.
 //! - `group`: receivers with numbers, each with its capcodes, and one front end for all.
-//! - `laws`: where a hunt over a preamble finds the sync word.
+//! - `laws`: where a hunt over a preamble finds the sync word, and that what was heard stays when more bits come.
 //!
 //! `specs/Stretches.antt` cuts a list of bits into stretches of lock, `specs/Slots.antt` gives their slots and the table of what was
 //! heard, and `specs/Heard.antt` their pages. `specs/Fronts.antt` says where a front end is in the bits that it was fed.
