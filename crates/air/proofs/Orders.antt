@@ -1,7 +1,7 @@
 -- What each kind of word changes.
-use Rattle.std.proofs.Common.{◌≡◌, ◌≢◌, ℕ, suc, List, [], ◌∷◌, Some, refl, sym, ◌∙◌, ap, subst, append-nil}
+use Rattle.std.proofs.Common.{◌≡◌, ◌≢◌, ℕ, suc, List, [], ◌∷◌, Some, None, refl, sym, ◌∙◌, ap, subst, append-nil}
 use Rattle.codeword.specs.declared.words.TheConstants.{SYNC}
-use Rattle.page_pool.specs.Pool.{Pool}
+use Rattle.page_pool.specs.Pool.{Pool, pages}
 use Rattle.scheduler.specs.Said.{word_in}
 use Rattle.scheduler.specs.Sendings.{slots_to_come, Follows, StandsAt}
 use Rattle.scheduler.specs.Sendings.{Gives as GivesSlot}
@@ -11,7 +11,7 @@ use Rattle.air.specs.Air.{filler}
 use Rattle.air.specs.Sends.{words_of}
 use Rattle.air.specs.Left.{with_sync, Gives, Stays}
 use Rattle.air.specs.declared.order.Order.{Order}
-use Rattle.air.proofs.Taking.{Keeps-same}
+use Rattle.scheduler.proofs.Left.{keeps-same}
 use Rattle.air.proofs.WithSync.{with_sync-first}
 
 -- so far has a transmission come
@@ -26,7 +26,7 @@ none_given p q r t d w = λ a h s. subst (λ (l : List Slot). StandsAt a l w d.p
 pub gives_filler : (p q r : ℕ) (d : Sending) (w : Pool) → Follows d w → p ≡ suc q → Gives (Some filler) (order p r d) w (order q r d) w
 gives_filler p q r d w f e =
     subst (λ (n : ℕ). Gives (Some filler) (order n r d) w (order q r d) w) (sym e)
-    (record { follows = f; next = refl; ended = tt; slots = []; has_slot = refl; stands = none_given (suc q) q r r d w; keeps = Keeps-same w })
+    (record { follows = f; next = refl; ended = tt; slots = []; has_slot = refl; stands = none_given (suc q) q r r d w; keeps = keeps-same w })
 
 -- slots have words
 some_words : (slots : List Slot) → slots ≢ [] → words_of slots ≢ []
@@ -46,7 +46,7 @@ gives_sync p r d w f e z some =
       slots = [];
       has_slot = refl;
       stands = none_given 0 0 0 16 d w;
-      keeps = Keeps-same w;
+      keeps = keeps-same w;
     }))
 
 -- the word of a slot
@@ -64,3 +64,19 @@ gives_slot p r q word slot d d' w w' e z g is =
       stands = g.stands;
       keeps = g.keeps;
     }))
+
+-- no word, at the end
+pub gives_none : (p r : ℕ) (d : Sending) (w : Pool) → Follows d w → p ≡ 0 → slots_to_come w d.place d.before ≡ [] → pages w ≡ []
+    → Gives None (order p r d) w (order p r d) w
+gives_none p r d w f e none empty =
+    subst (λ (n : ℕ). Gives None (order n r d) w (order n r d) w) (sym e)
+    (let no_word : with_sync r (words_of (slots_to_come w d.place d.before)) ≡ [] = ap (λ l. with_sync r (words_of l)) none in
+    record {
+      follows = f;
+      next = no_word;
+      ended = (no_word, empty);
+      slots = [];
+      has_slot = refl;
+      stands = none_given 0 0 r r d w;
+      keeps = keeps-same w;
+    })

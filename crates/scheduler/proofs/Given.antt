@@ -21,7 +21,8 @@ use Rattle.scheduler.specs.declared.slots.Slot.TheVariants.{Address, Message}
 use Rattle.scheduler.specs.declared.slots.Slot.TheVariants.{Idle as IdleSlot}
 use Rattle.scheduler.specs.declared.sendings.Before.TheVariants.{Idle, RunEnd, InRun}
 use Rattle.scheduler.specs.declared.sendings.Sending.{Sending}
-use Rattle.scheduler.proofs.Live.{First, first-is, none-waits, pages-taken, keeps-taken}
+use Rattle.scheduler.proofs.Live.{First, first-is, none-waits, pages-taken}
+use Rattle.scheduler.proofs.Left.{keeps-same, keeps-taken}
 use Rattle.scheduler.proofs.Giving.{Ends, GoesOn, next-on, next-end, stands-on, stands-end}
 use Rattle.scheduler.proofs.Cases.{idle_ends, address_ends, address_goes_on, message_ends, message_goes_on}
 
@@ -76,7 +77,7 @@ pub gives-idle : (s s' : Sending) (w : Pool) (f : ℕ) → Follows s w → IsBet
     → f ≡ s.place / 2 → None ≡ option_map (λ (e : Live). e.ticket) (find (is_live_in f) w.live)
     → s'.place ≡ (s.place + 1) % 16 → s'.before ≡ Idle → Gives IdleSlot s w s' w
 gives-idle s s' w f follows between more at none place is =
-    gives-end IdleSlot IdlePiece s w s' w (follows-idle s' w (omega (arith, place)) is) tt (record { cells = refl; region = refl })
+    gives-end IdleSlot IdlePiece s w s' w (follows-idle s' w (omega (arith, place)) is) tt (keeps-same w)
     (subst (Ends IdleSlot IdlePiece w s.place s.before w s'.place) (sym is)
     (idle_ends w s.place s'.place s.before between follows.in_batch more (ap (λ g. filter (in_frame g) (live_pages w)) (sym at) ∙ none-waits w f none) (omega (arith, place))))
 
@@ -120,7 +121,7 @@ module _ (w : Pool) (f t : ℕ) (function : Function) (sound : Sound w) (h : IsF
       gives-on (Message group) s w s' w
       (follows-in_run s' w f (k + 1) (omega (arith, place)) before
       (record { in_batch = u.in_batch; waits = u.waits; text_is = ap (λ v. v.items) kept ∙ u.text_is; more = omega (arith, n, more) }))
-      small (record { cells = refl; region = refl })
+      small (keeps-same w)
       (subst (GoesOn (Message group) w s.place s.before w s'.place) (sym before)
       (subst (λ b. GoesOn (Message group) w s.place b w s'.place (InRun f (k + 1))) (sym way)
       (message_goes_on w s.place s'.place f k (Message group) u.more (own_group text k group e (omega (arith, more)) is) (omega (arith, place)))))
@@ -189,7 +190,7 @@ module _ (w : Pool) (t capcode : ℕ) (function : Function) (s s' : Sending) (f 
         more = omega (arith, c, m, some);
       }) in
       let before' : s'.before ≡ InRun (s.place / 2) 0 = before ∙ ap (λ v. InRun v 0) at in
-      gives-on (Address capcode function) s w s' w follows' tt (record { cells = refl; region = refl })
+      gives-on (Address capcode function) s w s' w follows' tt (keeps-same w)
       (subst (GoesOn (Address capcode function) w s.place s.before w s'.place) (sym before')
       (subst (λ a. GoesOn a w s.place s.before w s'.place (InRun (s.place / 2) 0)) (address_is x)
       (address_goes_on w s.place s'.place s.before page x.more between follows.in_batch first is (omega (arith, place)))))

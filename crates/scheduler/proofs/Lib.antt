@@ -7,6 +7,7 @@ pub mod Schedules
 pub mod Rest
 pub mod Said
 pub mod Live
+pub mod Left
 pub mod Giving
 pub mod Cases
 pub mod Given

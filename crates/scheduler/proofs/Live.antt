@@ -1,15 +1,14 @@
 -- The live pages of a pool as the pages that wait.
-use Rattle.std.proofs.Common.{◌≡◌, ℕ, true, List, [], ◌∷◌, ◌++◌, map, Some, None, refl, sym, ◌∙◌, ap, arith, eqb-true, inl, inr}
+use Rattle.std.proofs.Common.{◌≡◌, ℕ, true, List, [], ◌∷◌, ◌++◌, map, Some, None, refl, sym, ◌∙◌, ap, eqb-true, inl, inr}
 use Rattle.std.specs.List.{filter, find}
 use Rattle.std.specs.Option.{option_map}
 use Rattle.page_text.specs.Page.{Page}
-use Rattle.page_pool.specs.Pool.{Live, Pool, Names, Takes, TakesFirst, Sound, in_use, pages}
+use Rattle.page_pool.specs.Pool.{Live, Pool, Names, Takes, TakesFirst, Sound, pages}
 use Rattle.page_pool.specs.Pool.{in_frame as is_live_in}
-use Rattle.page_pool.proofs.Lists.{in_use-append}
 use Rattle.page_pool.proofs.Laws.{find_split, found, first_taken}
 use Rattle.scheduler.specs.Slots.{frame, in_frame}
 use Rattle.scheduler.specs.Plan.{without_first}
-use Rattle.scheduler.specs.Sendings.{first_of, IsFirst, Keeps}
+use Rattle.scheduler.specs.Sendings.{first_of, IsFirst}
 use Rattle.scheduler.proofs.Frames.{true_or_false}
 
 -- the pages of entries
@@ -90,10 +89,3 @@ pages-taken old new f t sound h k =
     let x = first_taken old new f t sound h k in
     let T : TakesFirst old new f x.0 = x.1 in
     ap pages_of T.left ∙ sym (without_first-first f T.before x.0 T.after T.none_before T.mine) ∙ ap (λ l. without_first f (pages_of l)) (sym T.was)
-
--- who takes a page keeps the cells
-pub keeps-taken : (old new : Pool) (t : ℕ) → Takes old new t → Keeps old new
-keeps-taken old new t k = record {
-  cells = omega (arith, ap in_use k.was, ap in_use k.left, k.spare, in_use-append k.before k.after, in_use-append k.before (k.entry ∷ k.after));
-  region = k.region;
-}

@@ -85,10 +85,16 @@ pub record StandsAt (accepted : List Page) (given : List Slot) (w : Pool) (place
   pub given_is : given ≡ slots_in before ++ begun w last
   pub held : live_pages w ≡ still (pages before) accepted
 
--- what stays of a pool while pages are taken out of it: its cells, and what stands in them
+-- These are the live pages of before without some of them, in their order: each that stays has its ticket and its places.
+unfoldable pub AreLeft : List Live → List Live → Type 0
+AreLeft [] new = new ≡ []
+AreLeft (e ∷ old) new = AreLeft old new ⊎ ((rest : List Live) × (new ≡ e ∷ rest) × AreLeft old rest)
+
+-- what stays of a pool while pages are taken out of it: its cells, what stands in them, and the pages that aren't taken
 pub record Keeps (old new : Pool) : Type 0 where
   pub cells : cells new ≡ cells old
   pub region : new.region ≡ old.region
+  pub left : AreLeft old.live new.live
 
 -- a part of the run that comes next, or nothing
 abbrev pub IsPart : List Slot → List Piece → Type 0

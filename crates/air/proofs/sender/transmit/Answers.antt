@@ -2,6 +2,7 @@ use Rattle.std.proofs.Common.{sym, ◌∙◌, ap}
 use Rattle.page_pool.specs.Pool.{pages}
 use Rattle.scheduler.specs.Pooled.{slots_left}
 use Rattle.scheduler.proofs.Standing.{whole-slots}
+use Rattle.scheduler.proofs.Left.{keeps-same}
 use Rattle.air.proofs.Handing.{Puts-ok}
 use Rattle.air.proofs.Whole.{countable, few_batches, has_batches, none_live, Puts-err, sends_some, some_pages}
 use Rattle.air.proofs.sender.transmit.Goals as goal
@@ -39,3 +40,6 @@ pub returns-clause-empties : goal.returns-clause-empties
 returns-clause-empties g c =
     let same = c.pool-1.given.1 (sym (c.send.ensures.lends ∙ c.over-schedule.ensures.lends)) in
     none_live c.pool-1.given.0 (ap pages same ∙ c.in_ok-batches.ensures.empties)
+
+pub returns-then-pages-eq0-clause-keeps : goal.returns-then-pages-eq0-clause-keeps
+returns-then-pages-eq0-clause-keeps g c = keeps-same _

@@ -1,5 +1,5 @@
 use Rattle.std.proofs.Common.{arith}
-use Rattle.air.proofs.Orders.{gives_filler, gives_slot, gives_sync}
+use Rattle.air.proofs.Orders.{gives_filler, gives_none, gives_slot, gives_sync}
 use Rattle.air.proofs.order.Order.next.Goals as goal
 
 pub returns-then-self-gt0-clause-gives : goal.returns-then-self-gt0-clause-gives
@@ -15,3 +15,8 @@ returns-clause-gives g c =
     let t = c.if-self-gt0.false in
     let u = c.if-self-eq0.false in
     gives_slot _ _ _ _ c.slot.result _ _ _ _ (omega (arith, t)) (omega (arith, u)) c.slot.ensures.gives c.word.ensures
+
+pub returns-then-is_done-clause-gives : goal.returns-then-is_done-clause-gives
+returns-then-is_done-clause-gives g c =
+    let t = c.if-self-gt0.false in
+    gives_none _ _ _ _ c.requires (omega (arith, t)) (c.is_done.ensures.end.0 c.if-is_done.true) (c.is_done.ensures.empty c.if-is_done.true)
