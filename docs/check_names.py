@@ -49,20 +49,28 @@ class Crate:
     """The modules of a crate's code, and the items of each."""
 
     def __init__(self, name):
-        self.modules, self.types = {}, {}
+        self.modules, self.types, self.others = {}, {}, {}
         for path, text in TEXTS.items():
             if path.suffix == ".rt" and path.parent == CRATES / name / "src":
                 items = set(ITEM.findall(text)) | {v.group(1) for v in map(VARIANT.match, text.splitlines()) if v}
                 self.modules[path.stem] = items
+                for origin, group, one in re.findall(r"^pub use (\w+)::(?:\w+::)*(?:\{([^}]*)\}|(\w+));", text, re.M):
+                    if origin in OWN and not (path.parent / f"{origin}.rt").exists():
+                        self.others.update({again.strip(): origin for again in (group or one).split(",")})
                 for kind in re.findall(r"\b(?:struct|enum|trait|type)\s+(\w+)", text):
                     self.types.setdefault(kind, set()).update(items)
                 for target in re.findall(r"^impl\b.*?(\w+)(?:<[^{]*>)?\s*\{", text, re.M):
                     self.types.setdefault(target, set()).update(items)
 
     def has(self, parts):
-        """Whether these segments name something here: modules and types, and at last an item of them."""
+        """Whether these segments name something here: modules and types, and at last an item of them. What another crate has is named
+        by its name here."""
+        if parts and parts[0] in self.others:
+            return KNOWN[self.others[parts[0]]].has(parts)
+        if not parts:
+            return True
         if len(parts) == 1:
-            return parts[0] in self.modules or any(parts[0] in items for items in self.modules.values())
+            return parts[0] in self.modules or parts[0] in self.types or any(parts[0] in items for items in self.modules.values())
         first, rest = parts[0], parts[1:]
         if first in self.modules and (len(rest) == 1 and rest[0] in self.modules[first] or len(rest) == 2 and rest[0] in self.types and rest[1] in self.types[rest[0]]):
             return True
