@@ -16,7 +16,7 @@ HEAD = """# Definitions
 
 Every public definition of `crates/*/specs/`. `docs/make_definitions.py` writes this document from the comments above the definitions, and from a search for what cites them. Change a comment there, and run it again.
 
-Crates come in the order of `crates.txt`, the lowest first, and in a crate a file comes after those that it uses. A name stands in the file of its table. *Cited by* names the functions whose contracts, or the types whose views and invariants, speak of the definition, public functions first; *in* names definitions that use it, where no contract does so itself; *tests* names functions of the tests alone. *Worked rows* names the proof files that compute examples with it. A dash means that there is none; a comment that speaks of several definitions stands above the first. Names of rules in quotation marks are headings of `docs/profile.md`.
+Crates come in the order of `crates.txt`, the lowest first, and in a crate a file comes after those that it uses. A name stands in the file of its table. *Cited by* names the functions whose contracts, or the types whose views and invariants, speak of the definition, public functions first; *in* names definitions that use it, where no contract does so itself; *tests* names functions of the tests alone. *Worked rows* names the proof files that compute examples with it. A dash means that there is none. A definition that has no comment of its own comes *with* the one before it that has. Names of rules in quotation marks are headings of `docs/profile.md`.
 """
 
 DEFINITION = re.compile(r"^(?:abbrev pub|unfoldable pub|pub record|pub data|pub) (?!mod |use )(\S+)")
@@ -237,8 +237,12 @@ def document():
                 continue
             texts.append(f"\n### `crates/{crate}/specs/{stem}.antt`\n\n{sentence(head)}\n")
             texts.append("\n| definition | what it says | cited by | worked rows |\n|---|---|---|---|\n")
+            above = None
             for definition in own:
-                row = [f"`{definition.name}`", cell(sentence(definition.comment)), cited_by(definition), ", ".join(definition.rows) or "–"]
+                if definition.comment:
+                    above = definition.name
+                comment = definition.comment or (f"with `{above}`" if above else "")
+                row = [f"`{definition.name}`", cell(sentence(comment)), cited_by(definition), ", ".join(definition.rows) or "–"]
                 texts.append("| " + " | ".join(row) + " |\n")
     return HEAD + "".join(texts), len(every)
 
