@@ -145,9 +145,9 @@ def compare_trial(maker, program):
     words = model.transmission(pages)
     noise, is_near = maker.noise(len(words))
     flips = model.bytes_of(noise)[: maker.random.choice([len(words) * 4] * 3 + [maker.random.randint(0, len(words) * 4)])]
-    capcodes = {capcode for capcode, _ in subscribers.values()} | {8}
+    capcodes = sorted({capcode for capcode, _ in subscribers.values()} | {8})
     heard = model.heard(turned(model.bits_of(model.bytes_of(words)), model.bits_of(flips)), capcodes)
-    wanted = "".join(answer + "\n" for answer in answers) + "---\n" + model.page_lines(heard)
+    wanted = "".join(answer + "\n" for answer in answers) + "---\n" + model.page_lines(heard, capcodes)
     names = program.write("settings", settings.encode()), program.write("noise", flips)
     same("trial", program.run("trial", *names, *capcodes, given=said), (0, wanted))
     for capcode in capcodes if is_near else []:
@@ -199,9 +199,9 @@ def compare_station(maker, program):
     noise = [pattern for pages in lists for pattern in maker.noise(len(model.transmission(pages)))[0]]
     content = model.bytes_of(word ^ pattern for word, pattern in zip(words, noise))
     content = content[: maker.random.choice([len(content), len(content), maker.random.randint(0, len(content))])]
-    capcodes = {capcode for capcode, _ in subscribers.values()} | {8}
+    capcodes = sorted({capcode for capcode, _ in subscribers.values()} | {8})
     bits = model.bits_of(content)
-    same("play", program.run("play", program.write("heard", content), *capcodes), (0, model.page_lines(model.heard(bits, capcodes))))
+    same("play", program.run("play", program.write("heard", content), *capcodes), (0, model.page_lines(model.heard(bits, capcodes), capcodes)))
     same("show", program.run("show", program.path("heard")), (0, model.table(bits)))
 
 

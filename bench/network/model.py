@@ -332,8 +332,10 @@ def shown(text):
     return "".join(named.get(c) or (chr(c) if 0x20 <= c <= 0x7E else f"\\x{c:02X}") for c in text)
 
 
-def page_lines(pages):
-    return "".join(f"{capcode:07} {LETTERS[function]} {shown(text)}\n" for capcode, function, text in pages)
+def page_lines(pages, capcodes):
+    """The lines of pages that receivers hear which have one of these capcodes each, and are numbered in their order."""
+    number = {capcode: k for k, capcode in enumerate(capcodes, 1)}
+    return "".join(f"{number[capcode]:02} {capcode:07} {LETTERS[function]} {shown(text)}\n" for capcode, function, text in pages)
 
 
 def table(bits):

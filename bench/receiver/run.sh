@@ -21,7 +21,7 @@ pub extern "C" fn hear_pages(capcode: u32, bytes: &[u8]) -> u32 {
     let Some(capcode) = Capcode::of(capcode) else {
         return 0;
     };
-    let mut receiver = Receiver::new(capcode);
+    let mut receiver = Receiver::new(&[capcode]);
     let mut pages = 0u32;
     for byte in bytes {
         for k in 0..8u32 {
