@@ -1,4 +1,4 @@
--- Outcomes, row by row.
+-- Outcomes, verb by verb.
 use Rattle.std.proofs.Common.{◌≡◌, ℕ, ◌*◌, ◌<◌, ◌≤◌, cond, Bool, true, false, List, [], ◌∷◌, length, refl, ap, sym, subst, arith, Option, Some, None, nat_lt}
 use Rattle.std.proofs.lemmas.Bool.Decides.{nat_tests}
 use Rattle.page_text.specs.Fits.{Fits}
@@ -66,7 +66,7 @@ by_test false o q h k = k
 none : 0 ≤ 1
 none = omega arith
 
--- rows 9 to 11
+-- a page with a text
 text_usual : (spare : ℕ) (s : Subscriber) (text : List ℕ) → IsUsual (send_text spare s text)
 text_usual spare s text = by_test (fits s.function text) _ _
     (by_test (nat_lt spare (cells_for (length text) * length (capcodes s))) _ _ (record { is_said = refl; few = none }) (record { is_said = refl; few = omega arith }))
@@ -87,17 +87,17 @@ send_usual : (directory : Directory) (spare : ℕ) (p : Pending) (id : Option (L
 send_usual directory spare p None = record { is_said = refl; few = none }
 send_usual directory spare p (Some id) = to_usual spare p (directory id)
 
--- rows 3 and 4
+-- an id where none is pending
 id_usual : (p : Pending) (id : List ℕ) (s : Option Subscriber) → IsUsual (with_id p id s)
 id_usual p id None = record { is_said = refl; few = none }
 id_usual p id (Some s) = record { is_said = refl; few = none }
 
--- rows 2 to 4
+-- an id
 page_usual : (directory : Directory) (p : Pending) (id : List ℕ) (o : Option (List ℕ)) → IsUsual (page_row directory p id o)
 page_usual directory p id None = id_usual p id (directory id)
 page_usual directory p id (Some other) = record { is_said = refl; few = none }
 
--- rows 5 and 6
+-- a text
 mess_usual : (p : Pending) (text : List ℕ) (o : Option (List ℕ)) → IsUsual (mess_row p text o)
 mess_usual p text None = record { is_said = refl; few = none }
 mess_usual p text (Some other) = record { is_said = refl; few = none }

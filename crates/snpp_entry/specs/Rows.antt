@@ -1,4 +1,4 @@
--- How a line is answered: the rows of the table of lines, the first that applies.
+-- How a line is answered: docs/profile.md, "SNPP lines", by the first row that applies.
 use Rattle.std.specs.Prelude.{ℕ, ◌*◌, nat_lt, Bool, ◌||◌, List, [], ◌∷◌, map, length, codes, Option, Some, None, if◌then◌else◌}
 use Rattle.std.specs.Str.{str_eq_ignore_ascii_case}
 use Rattle.codeword.specs.declared.functions.Function.{Function}
@@ -55,22 +55,22 @@ verb_of v =
     else if is_word v (codes "QUIT") then QUIT
     else OTHER
 
--- rows 3 and 4, where no id is pending
+-- an id, where none is pending: it is unknown, or is pending from now on
 abbrev pub with_id : Pending → List ℕ → Option Subscriber → Outcome
 with_id p id None = plainly Pager p
 with_id p id (Some s) = plainly Ok (record p { id = Some id })
 
--- rows 2 to 4
+-- an id: a second one, an unknown one, or one that is pending from now on
 abbrev pub page_row : Directory → Pending → List ℕ → Option (List ℕ) → Outcome
 page_row directory p id (Some pending) = plainly Twice p
 page_row directory p id None = with_id p id (directory id)
 
--- rows 5 and 6
+-- a text: a second one, or one that is pending from now on
 abbrev pub mess_row : Pending → List ℕ → Option (List ℕ) → Outcome
 mess_row p text (Some pending) = plainly Twice p
 mess_row p text None = plainly Ok (record p { text = Some text })
 
--- rows 9 to 11, for this subscriber and this text
+-- a page for this subscriber with this text: the text is wrong, there is no room, or the page is queued
 abbrev pub send_text : ℕ → Subscriber → List ℕ → Outcome
 send_text spare s text =
     if fits s.function text then
@@ -85,7 +85,7 @@ text_for Tone2 None = Some []
 text_for Numeric None = None
 text_for Alpha None = None
 
--- rows 8 to 11, for this subscriber and its text
+-- a page for this subscriber: the text is missing, or there is one
 abbrev pub send_by : ℕ → Pending → Subscriber → Option (List ℕ) → Outcome
 send_by spare p s None = plainly Missing p
 send_by spare p s (Some text) = send_text spare s text
@@ -95,17 +95,17 @@ abbrev pub send_to : ℕ → Pending → Option Subscriber → Outcome
 send_to spare p None = plainly Missing p
 send_to spare p (Some s) = send_by spare p s (text_for s.function p.text)
 
--- rows 8 to 11
+-- a page: the id is missing, or there is one
 abbrev pub send_row : Directory → ℕ → Pending → Option (List ℕ) → Outcome
 send_row directory spare p None = plainly Missing p
 send_row directory spare p (Some id) = send_to spare p (directory id)
 
--- a verb without an argument; row 13 where it has one
+-- a verb without an argument. With one the line is no command
 abbrev pub alone : List ℕ → Pending → Outcome → Outcome
 alone [] p o = o
 alone (c ∷ a) p o = plainly Command p
 
--- rows 2 to 13, by the verb
+-- a line that isn't too long, by its verb
 abbrev pub by_verb : Directory → ℕ → Pending → Verb → List ℕ → Outcome
 by_verb directory spare p PAGE a = page_row directory p a p.id
 by_verb directory spare p MESS a = mess_row p a p.text
@@ -114,7 +114,7 @@ by_verb directory spare p SEND a = alone a p (send_row directory spare p p.id)
 by_verb directory spare p QUIT a = alone a p (plainly Bye p)
 by_verb directory spare p OTHER a = plainly Command p
 
--- all rows
+-- any line
 abbrev pub outcome : Directory → ℕ → Pending → List ℕ → Outcome
 outcome directory spare p line =
     if nat_lt 1100 (length line) then plainly Command p else by_verb directory spare p (verb_of (verb line)) (argument line)

@@ -1,4 +1,5 @@
 //! One session of the second entry line, after the Simple Network Paging Protocol (RFC 1861), level 1.
+//! docs/profile.md, "SNPP lines", "SNPP session" and "SNPP replies", has the rules.
 //!
 //! - `answers`: what a character is answered, and the bytes of a reply.
 //! - `report`: the counts of a session.
