@@ -1,8 +1,9 @@
 //! What the definitions say, whatever the text.
 
-ghost use Rattle.std.specs.Prelude.{◌≡◌, ℕ, ◌≤◌, List, length};
+ghost use Rattle.std.specs.Prelude.{◌≡◌, ℕ, ◌≤◌, ◌↔◌, List, length, true};
 ghost use Rattle.codeword.specs.declared.functions.Function.{Function};
 ghost use Rattle.page_text.specs.Fits.{Fits};
+ghost use Rattle.page_text.specs.FitTest.{fits};
 ghost use Rattle.page_text.specs.Groups.{groups};
 ghost use Rattle.page_text.specs.Texts.{text_of};
 
@@ -10,4 +11,9 @@ ghost use Rattle.page_text.specs.Texts.{text_of};
 pub fn back()
     ensures text { (function : Function) (text : List ℕ) → Fits function text → text_of function (groups function text) ≡ text }
     ensures few { (function : Function) (text : List ℕ) → Fits function text → length (groups function text) ≤ 140 }
+{}
+
+/// The test of a text passes exactly those that fit.
+pub fn fit_test()
+    ensures { (function : Function) (text : List ℕ) → (fits function text ≡ true) ↔ Fits function text }
 {}

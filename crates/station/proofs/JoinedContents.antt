@@ -7,7 +7,7 @@ use Rattle.tap_block.specs.Chars.{stx, etx, etb, us, cr, sub}
 use Rattle.tap_block.specs.Reading.{IsBody, IsBodyChar}
 use Rattle.tap_block.specs.Fields.{escaped, escape_of, parts_of, read_field, front}
 use Rattle.tap_block.proofs.Values.{escaped_read, read_plain}
-use Rattle.tap_terminal.proofs.Parts.{parts_some}
+use Rattle.tap_block.proofs.PartsOf.{parts_some}
 use Rattle.subscribers.specs.declared.subscriber.Subscriber.{Subscriber}
 use Rattle.tap_terminal.specs.declared.answers.Reason.{Reason}
 use Rattle.tap_terminal.specs.declared.answers.Reason.TheVariants.{Unknown, Text, Room}

@@ -1,16 +1,15 @@
 -- The capcodes of a file's settings are usable.
-use Rattle.std.proofs.Common.{◌≡◌, ◌≢◌, ℕ, ◌^◌, ◌==◌, Bool, true, false, cond, not, ◌&&◌, nat_lt, ℤ, pos, negsuc, List, [], ◌∷◌, map, length, Option, Some, None, Result, Ok, Err, refl, sym, ◌∙◌, ap, subst, arith}
-use Rattle.std.proofs.lemmas.Bool.{eq-eqb}
-use Rattle.std.proofs.lemmas.Bool.Decides.{nat_tests}
+use Rattle.std.proofs.Common.{◌≡◌, ℕ, Bool, true, false, cond, not, nat_lt, ℤ, pos, negsuc, List, [], ◌∷◌, map, length, Option, Some, None, Result, Ok, Err, refl, sym, ◌∙◌, ap, subst}
 use Rattle.std.specs.Cmp.Lexicographic.{nat_list_cmp_total}
 use Rattle.std.specs.FinMap.{get, get-from_entries, from_entries}
 use Rattle.std.specs.FinMap.Entries.{find}
 use Rattle.std.specs.List.{AllByRecursion}
 use Rattle.std.specs.Ordering.{eq_by_cmp}
 use Rattle.toml.specs.Data.{Members}
-use Rattle.codeword.specs.Capcodes.{IsUsable, high_of, idle_high, sync_high}
+use Rattle.codeword.specs.Capcodes.{IsUsable}
 use Rattle.codeword.specs.declared.functions.Function.{Function}
 use Rattle.subscribers.proofs.Directories.{id_cmp}
+use Rattle.subscribers.proofs.Usable.{IsUsable-from_is_usable}
 use Rattle.subscribers.specs.Entries.{is_id, is_usable, capcode_of, function_of, with_class, with_capcode, subscriber_of, places, Listed, listed_as, listed, joined, all_or_first_fault, listed_all, map_of, ids_of}
 use Rattle.subscribers.specs.Form.{Entry, Form, form_of}
 use Rattle.subscribers.specs.Parts.{Ids, Parts}
@@ -40,26 +39,6 @@ Ok-from_then true fault r x h = h
 Ok-from_then false fault r x h = no_fault fault x h
 
 -- ---- one entry
-
--- two tests that hold
-both_hold : (a b : Bool) → (a && b) ≡ true → (a ≡ true) × (b ≡ true)
-both_hold true b h = (refl, h)
-both_hold false b h = absurd cc
-
-unequal : (a b : ℕ) → not (a == b) ≡ true → a ≢ b
-unequal a b h e = let t : not true ≡ true = ap not (sym (eq-eqb a b e)) ∙ h in absurd cc
-
--- a capcode that passes the test is usable
-IsUsable-from_is_usable : (n : ℕ) → is_usable n ≡ true → IsUsable n
-IsUsable-from_is_usable n h =
-    let one = both_hold (nat_lt n (2 ^ 21)) (not (high_of n == idle_high) && not (high_of n == sync_high)) h in
-    let two = both_hold (not (high_of n == idle_high)) (not (high_of n == sync_high)) one.1 in
-    let low : nat_lt n (2 ^ 21) ≡ true = one.0 in
-    record {
-      small = grind (arith, nat_tests, low);
-      not_idle = unequal (high_of n) idle_high two.0;
-      not_sync = unequal (high_of n) sync_high two.1;
-    }
 
 IsUsable-from_test : (n k : ℕ) (b : Bool) → is_usable n ≡ b → cond b (Some n) None ≡ Some k → IsUsable k
 IsUsable-from_test n k true e h = subst IsUsable (let same : n ≡ k = cc in same) (IsUsable-from_is_usable n e)

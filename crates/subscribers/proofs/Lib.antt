@@ -6,3 +6,4 @@ pub mod Keys
 pub mod Places
 pub mod Subscribers
 pub mod Turns
+pub mod Usable

@@ -9,12 +9,14 @@
 //! - `entries`: the checks of each entry, and the map that the entries make.
 //! - `directory`: the ordered map of ids.
 //! - `settings`: the settings.
+//! - `laws`: the test of a capcode passes those that are usable.
 #![tactic(auto)]
 
 mod directory;
 mod document;
 mod entries;
 pub mod faults;
+pub mod laws;
 pub mod settings;
 pub mod subscriber;
 

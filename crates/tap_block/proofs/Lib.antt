@@ -6,6 +6,7 @@ pub mod Grows
 pub mod LoneBlocks
 pub mod OneReading
 pub mod Parts
+pub mod PartsOf
 mod Rows
 pub mod Values
 pub mod WholeBlocks

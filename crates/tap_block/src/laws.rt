@@ -1,10 +1,10 @@
 //! What the definitions say, whatever the input.
 
-ghost use Rattle.std.specs.Prelude.{◌≡◌, ◌≤◌, ◌↔◌, ℕ, [], ◌∷◌, List, Option, Ok, Err, true};
+ghost use Rattle.std.specs.Prelude.{◌≡◌, ◌≤◌, ◌↔◌, ℕ, [], ◌∷◌, List, Option, Some, Ok, Err, true};
 ghost use Rattle.std.specs.List.{AllByRecursion};
 ghost use Rattle.tap_block.specs.Chars.{IsChar, characters};
 ghost use Rattle.tap_block.specs.Reading.{Mode, AfterLogon, Piece, HasOneReading, Reads, IsBody, items_of, a_block};
-ghost use Rattle.tap_block.specs.Fields.{HasValue, HasFault, block_of, escaped, read_field};
+ghost use Rattle.tap_block.specs.Fields.{AreParts, HasValue, HasFault, block_of, escaped, parts_of, read_field};
 ghost use Rattle.tap_block.specs.declared.ends.End.{End};
 ghost use Rattle.tap_block.specs.declared.faults.FieldFault.{FieldFault};
 
@@ -25,4 +25,9 @@ pub fn written_is_read()
 pub fn value_or_fault()
     ensures value { (field value : List ℕ) → (read_field field ≡ Ok value) ↔ HasValue field value }
     ensures fault { (field : List ℕ) (fault : FieldFault) → (read_field field ≡ Err fault) ↔ HasFault field fault }
+{}
+
+/// The parts that the function gives are the parts of the content, and it gives none exactly where a content has none.
+pub fn parts()
+    ensures { (content first second : List ℕ) → (parts_of content ≡ Some (first, second)) ↔ AreParts content first second }
 {}

@@ -1,4 +1,3 @@
-pub mod Parts
 pub mod Reports
 pub mod Sessions
 pub mod Verdicts

@@ -23,7 +23,7 @@ use Rattle.subscribers.specs.Directory.{Directory}
 use Rattle.tap_terminal.specs.Verdict.{Verdict, refused, both_values, values_of, fields_for, text_for, room_for, judge_content, by_end, verdict}
 use Rattle.tap_terminal.specs.Session.{is_end, cells_for_page, Course, decide}
 use Rattle.tap_terminal.specs.Desk.{Desk, Gains, IsDone, IsJudged, said}
-use Rattle.tap_terminal.proofs.Parts.{parts_some, parts_none}
+use Rattle.tap_block.proofs.PartsOf.{parts_some, parts_none}
 use Rattle.page_text.proofs.FitTest.{fits_from_test, test_from_fits}
 
 -- a refusal leaves the pool
