@@ -117,6 +117,7 @@ through_begins printed bits n o e = record {
   so_far = refl;
   there = λ t some. absurd (omega (arith, some));
   wrote = subst (λ (piece : List ℕ). Wrote o o piece) (sym e) (Wrote-nothing o);
+  untouched = λ none. refl;
 }
 
 -- some bits more were heard, and what they give was printed
@@ -133,6 +134,7 @@ through_goes_on printed bits more left before after old now next o0 o1 o2 flips 
   so_far = so_far_after before after now next h.heard h.noise more flips h.so_far g same some (gives_tells before after now next flips g);
   wrote = subst (λ (piece : List ℕ). Wrote o0 o2 piece) (sym (ap printed (noisy-after before after now next h.heard h.noise more flips h.so_far g) ∙ p.more))
       (Wrote-then o0 o1 o2 (printed (noisy_bits h.heard h.noise)) p.piece x h.wrote p.put);
+  untouched = λ none. absurd (omega (arith, some, length-append h.heard more, ap length none));
 }
 
 -- the bits of the noise so far are its first, and all that count
@@ -142,6 +144,15 @@ noise_of_all true now bits noise h t = ap (noisy_bits bits) (sym (append-nil noi
 
 noise_so_far : (ended : Bool) (old now : Left Bool) (bits noise : List Bool) → Took old now noise → NoiseSoFar ended now bits noise → IsTrue old.tells → noisy_bits bits noise ≡ noisy_bits bits old.left
 noise_so_far ended old now bits noise took h t = noise_of_all ended now bits noise h (still took.tells t) ∙ ap (noisy_bits bits) (sym (took.left t))
+
+-- no more bits of the noise were read than were heard, and fewer only where it has no more
+few_read : (ended : Bool) (now : Left Bool) (bits noise : List Bool) → NoiseSoFar ended now bits noise → length noise ≤ length bits
+few_read false now bits noise h = omega (arith, h)
+few_read true now bits noise h = h.0
+
+fewer_read : (ended : Bool) (old now : Left Bool) (bits noise : List Bool) → Took old now noise → NoiseSoFar ended now bits noise → IsTrue old.tells → length noise < length bits → now.left ≡ []
+fewer_read false old now bits noise took h t lt = absurd (omega (arith, h, lt))
+fewer_read true old now bits noise took h t lt = h.1 (still took.tells t)
 
 -- a write failed
 pub through_unprinted : {T F : Type 0} (printed : List Bool → List ℕ) (bits more left : List Bool) (before after : Bool) (old now next : Left Bool) (o0 o1 o2 : Written ℕ) (flips : List Bool) (e : F)
@@ -159,6 +170,11 @@ through_unprinted printed bits more left before after old now next o0 o1 o2 flip
   there = λ t any. there_after before after old now next h.heard h.noise flips h.took h.so_far h.there g t;
   wrote = subst (λ (piece : List ℕ). WroteFront o0 o2 piece) (sym (ap printed (noisy-after before after now next h.heard h.noise more flips h.so_far g) ∙ p.more))
       (WroteFront-then o0 o1 o2 (printed (noisy_bits h.heard h.noise)) p.piece e h.wrote p.put);
+  few = few_read after next (h.heard ++ more) (noise_after before after h.noise flips)
+      (so_far_after before after now next h.heard h.noise more flips h.so_far g same some (gives_tells before after now next flips g));
+  fewer = fewer_read after old next (h.heard ++ more) (noise_after before after h.noise flips) (took_after before after old now next h.noise flips h.took g)
+      (so_far_after before after now next h.heard h.noise more flips h.so_far g same some (gives_tells before after now next flips g));
+  some = omega (arith, some, length-append h.heard more);
 }
 
 -- the noise failed
@@ -166,9 +182,14 @@ fails_now : {E : Type 0} (before after : Bool) (now next : Left Bool) (e : E) �
 fails_now false after now next e g = g
 fails_now true after now next e g = elim g [ ]
 
+-- it fails only before its end, where as many of its bits were read as were heard
+fails_at : {E : Type 0} (before after : Bool) (now next : Left Bool) (e : E) (bits noise : List Bool) → NoiseSoFar before now bits noise → NoiseGives before after now next (Err e) → length noise ≡ length bits
+fails_at false after now next e bits noise h g = h
+fails_at true after now next e bits noise h g = elim g [ ]
+
 pub through_failed : {E : Type 0} (printed : List Bool → List ℕ) (bits left : List Bool) (before after : Bool) (old now next : Left Bool) (o0 o : Written ℕ) (e : E)
-    → (h : ListeningThrough printed bits left before old now o0 o) → NoiseGives before after now next (Err e) → NoiseFailed printed bits old next o0 o
-through_failed printed bits left before after old now next o0 o e h g =
+    → (h : ListeningThrough printed bits left before old now o0 o) → NoiseGives before after now next (Err e) → 0 < length left → NoiseFailed printed bits old next o0 o
+through_failed printed bits left before after old now next o0 o e h g more =
     let f = fails_now before after now next e g in
     record {
       heard = h.heard;
@@ -185,6 +206,8 @@ through_failed printed bits left before after old now next o0 o e h g =
       of_noise = noise_so_far before old now h.heard h.noise h.took h.so_far;
       there = λ t some. h.there t (some_long h.heard some);
       wrote = h.wrote;
+      as_many = fails_at before after now next e h.heard h.noise h.so_far g;
+      more = more;
     }
 
 -- all was heard
@@ -198,7 +221,14 @@ through_all printed bits left ended old now o0 o none h =
       of_all = noise_so_far ended old now bits h.noise h.took (subst (λ (xs : List Bool). NoiseSoFar ended now xs h.noise) all h.so_far);
       there = λ t some. h.there t (subst (λ (xs : List Bool). 0 < length xs) (sym all) (some_long bits some));
       wrote = subst (λ (xs : List Bool). Wrote o0 o (printed (noisy_bits xs h.noise))) all h.wrote;
+      few = few_read ended now bits h.noise (subst (λ (xs : List Bool). NoiseSoFar ended now xs h.noise) all h.so_far);
+      fewer = fewer_read ended old now bits h.noise h.took (subst (λ (xs : List Bool). NoiseSoFar ended now xs h.noise) all h.so_far);
+      untouched = λ nothing. h.untouched (all ∙ nothing);
     }
+
+-- where a piece has a bit, a bit is left
+pub some_left : (left piece rest : List Bool) → piece ++ rest ≡ left → 0 < length piece → 0 < length left
+some_left left piece rest same some = omega (arith, some, length-append piece rest, ap length same)
 
 -- as many bits were heard as the bits that are left allow
 pub few_now : (printed : List Bool → List ℕ) (bits more left : List Bool) (ended : Bool) (old now : Left Bool) (o0 o : Written ℕ) (h : ListeningThrough printed bits (more ++ left) ended old now o0 o)
@@ -301,4 +331,5 @@ with_left printed bits left other ended old now o0 o e h = record {
   so_far = h.so_far;
   there = h.there;
   wrote = h.wrote;
+  untouched = h.untouched;
 }

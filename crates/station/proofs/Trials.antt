@@ -101,6 +101,9 @@ tries_between settings spare printed i0 i before after n o0 o1 o2 piece e silent
           (ap (λ (z : List ℕ). answer_lines h.session.answers ++ z) is ∙ (sym (append-nil (answer_lines h.session.answers ++ codes "---\n"))
           ∙ ap (λ (z : List ℕ). answer_lines h.session.answers ++ codes "---\n" ++ z) (sym (silent))))
           (WroteFront-then {T = Unit {0}} o0 o1 o2 (answer_lines h.session.answers) piece e h.wrote k);
+      few = omega arith;
+      fewer = λ t lt. absurd (omega (arith, lt));
+      untouched = λ none. refl;
     }
 
 -- the line between was printed, and then what was heard
@@ -120,6 +123,9 @@ tries_heard settings spare printed i0 i before after n0 n o0 o1 o2 o3 piece x st
       of_noise = p.of_all;
       there = p.there;
       wrote = wrote_more o0 o2 o3 (answer_lines h.session.answers ++ codes "---\n") (printed (noisy_bits q.air p.noise)) between p.wrote;
+      few = p.few;
+      fewer = p.fewer;
+      untouched = p.untouched;
     }
     by_status FileFault p = record {
       tried = tried settings spare i0 i before after o0 o1 q.air h none q.is_air;
@@ -131,6 +137,8 @@ tries_heard settings spare printed i0 i before after n0 n o0 o1 o2 o3 piece x st
       of_noise = p.of_noise;
       there = p.there;
       wrote = wrote_more o0 o2 o3 (answer_lines h.session.answers ++ codes "---\n") (printed (noisy_bits p.heard p.noise)) between p.wrote;
+      as_many = p.as_many;
+      more = p.more;
     }
     by_status OutFault p = inr (record {
       tried = tried settings spare i0 i before after o0 o1 q.air h none q.is_air;
@@ -142,6 +150,9 @@ tries_heard settings spare printed i0 i before after n0 n o0 o1 o2 o3 piece x st
       of_noise = p.of_noise;
       there = p.there;
       wrote = front_more o0 o2 o3 (answer_lines h.session.answers ++ codes "---\n") (printed (noisy_bits p.heard p.noise)) between p.wrote;
+      few = p.few;
+      fewer = p.fewer;
+      untouched = λ none. absurd (omega (arith, p.some, ap length none));
     })
     by_status Usage p = elim p [ ]
     by_status Settings p = elim p [ ]

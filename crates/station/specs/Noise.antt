@@ -22,15 +22,20 @@ NoiseGives true false old new (Ok bits) = ⊥
 NoiseGives false after old new (Err _) = FailedAfter old new []
 NoiseGives true after old new (Err _) = ⊥
 
--- All bits were heard, each xor the noise's bit, and what they give was printed. Where there are any, the noise was there.
+-- All bits were heard, each xor the noise's bit, and what they give was printed. Where there are any, the noise was there. As many bits of
+-- the noise were read, or all that it had, and where there are no bits it is as before.
 pub record HeardThrough (printed : List Bool → List ℕ) (bits : List Bool) (old new : Left Bool) (out0 out : Written ℕ) : Type 0 where
   pub noise : List Bool
   pub took : Took old new noise
   pub of_all : IsTrue old.tells → noisy_bits bits noise ≡ noisy_bits bits old.left
   pub there : IsTrue old.tells → bits ≢ [] → IsTrue old.there
   pub wrote : Wrote out0 out (printed (noisy_bits bits noise))
+  pub few : length noise ≤ length bits
+  pub fewer : IsTrue old.tells → length noise < length bits → new.left ≡ []
+  pub untouched : bits ≡ [] → new ≡ old
 
--- The noise failed. What the bits before give was printed. Where there are any, the noise was there.
+-- The noise failed for a bit that was to be heard. What the bits before give was printed, and as many bits of the noise were read. Where there
+-- are any, the noise was there.
 pub record NoiseFailed (printed : List Bool → List ℕ) (bits : List Bool) (old new : Left Bool) (out0 out : Written ℕ) : Type 0 where
   pub heard : List Bool
   pub rest : List Bool
@@ -40,8 +45,11 @@ pub record NoiseFailed (printed : List Bool → List ℕ) (bits : List Bool) (ol
   pub of_noise : IsTrue old.tells → noisy_bits heard noise ≡ noisy_bits heard old.left
   pub there : IsTrue old.tells → heard ≢ [] → IsTrue old.there
   pub wrote : Wrote out0 out (printed (noisy_bits heard noise))
+  pub as_many : length noise ≡ length heard
+  pub more : 0 < length rest
 
--- A write failed, after a front of what the bits give that were heard. Where there are any, the noise was there.
+-- A write failed, after a front of what the bits give that were heard, of which there are some. The noise was there, and as many of its bits
+-- were read, or all that it had.
 pub record HeardUnprinted (printed : List Bool → List ℕ) (bits : List Bool) (old new : Left Bool) (out0 out : Written ℕ) : Type 0 where
   pub heard : List Bool
   pub rest : List Bool
@@ -51,6 +59,9 @@ pub record HeardUnprinted (printed : List Bool → List ℕ) (bits : List Bool) 
   pub of_noise : IsTrue old.tells → noisy_bits heard noise ≡ noisy_bits heard old.left
   pub there : IsTrue old.tells → heard ≢ [] → IsTrue old.there
   pub wrote : WroteFront out0 out (printed (noisy_bits heard noise))
+  pub few : length noise ≤ length heard
+  pub fewer : IsTrue old.tells → length noise < length heard → new.left ≡ []
+  pub some : 0 < length heard
 
 -- what was heard through a noise and printed, by status
 abbrev pub ListensThrough : (List Bool → List ℕ) → List Bool → Left Bool → Left Bool → Written ℕ → Written ℕ → Status → Type 0
@@ -64,7 +75,7 @@ abbrev pub NoiseSoFar : Bool → Left Bool → List Bool → List Bool → Type 
 NoiseSoFar false now heard noise = length noise ≡ length heard
 NoiseSoFar true now heard noise = (length noise ≤ length heard) × (IsTrue now.tells → now.left ≡ []) × (0 < length heard)
 
--- Listening through a noise is under way.
+-- Listening through a noise is under way. Before a bit is heard the noise is as before.
 pub record ListeningThrough (printed : List Bool → List ℕ) (bits left : List Bool) (ended : Bool) (old now : Left Bool) (out0 out : Written ℕ) : Type 0 where
   pub heard : List Bool
   pub bits_are : bits ≡ heard ++ left
@@ -73,3 +84,4 @@ pub record ListeningThrough (printed : List Bool → List ℕ) (bits left : List
   pub so_far : NoiseSoFar ended now heard noise
   pub there : IsTrue old.tells → 0 < length heard → IsTrue old.there
   pub wrote : Wrote out0 out (printed (noisy_bits heard noise))
+  pub untouched : heard ≡ [] → now ≡ old

@@ -1,5 +1,5 @@
 -- A trial: the session of an input, and what receivers hear of its pages through a noise.
-use Rattle.std.specs.Prelude.{◌≡◌, ◌≢◌, ◌⊎◌, ℕ, Bool, List, [], ◌++◌, codes, IsTrue}
+use Rattle.std.specs.Prelude.{◌≡◌, ◌≢◌, ◌⊎◌, ℕ, ◌≤◌, ◌<◌, Bool, List, [], ◌++◌, codes, length, IsTrue}
 use Rattle.air.specs.Air.{IsAir}
 use Rattle.page_text.specs.Page.{Page}
 use Rattle.subscribers.specs.Parts.{Parts}
@@ -31,7 +31,8 @@ abbrev pub trial_lines : (List Bool → List ℕ) → Session → List Bool → 
 trial_lines printed session bits = answer_lines session.answers ++ codes "---\n" ++ printed bits
 
 -- All was printed: what is heard of the transmission, each bit xor the noise's bit, and 0 behind the noise's end. Where
--- anything is transmitted, the noise was there.
+-- anything is transmitted, the noise was there. As many bits of the noise were read, or all that it had, and where nothing is transmitted it is
+-- as before.
 pub record TriedAll (settings : Parts) (spare : ℕ) (printed : List Bool → List ℕ) (old new : Left ℕ) (noise0 noise : Left Bool) (out0 out : Written ℕ) : Type 0 where
   pub tried : TriedSession settings spare old new
   pub flips : List Bool
@@ -39,8 +40,12 @@ pub record TriedAll (settings : Parts) (spare : ℕ) (printed : List Bool → Li
   pub of_noise : IsTrue noise0.tells → noisy_bits tried.air flips ≡ noisy_bits tried.air noise0.left
   pub there : IsTrue noise0.tells → tried.air ≢ [] → IsTrue noise0.there
   pub wrote : Wrote out0 out (trial_lines printed tried.session (noisy_bits tried.air flips))
+  pub few : length flips ≤ length tried.air
+  pub fewer : IsTrue noise0.tells → length flips < length tried.air → noise.left ≡ []
+  pub untouched : tried.air ≡ [] → noise ≡ noise0
 
--- The noise failed. What is heard of the bits before was printed. Where there are any, the noise was there.
+-- The noise failed for a bit of the transmission. What is heard of the bits before was printed, and as many bits of the noise were read. Where
+-- there are any, the noise was there.
 pub record TriedNoise (settings : Parts) (spare : ℕ) (printed : List Bool → List ℕ) (old new : Left ℕ) (noise0 noise : Left Bool) (out0 out : Written ℕ) : Type 0 where
   pub tried : TriedSession settings spare old new
   pub heard : List Bool
@@ -51,9 +56,11 @@ pub record TriedNoise (settings : Parts) (spare : ℕ) (printed : List Bool → 
   pub of_noise : IsTrue noise0.tells → noisy_bits heard flips ≡ noisy_bits heard noise0.left
   pub there : IsTrue noise0.tells → heard ≢ [] → IsTrue noise0.there
   pub wrote : Wrote out0 out (trial_lines printed tried.session (noisy_bits heard flips))
+  pub as_many : length flips ≡ length heard
+  pub more : 0 < length rest
 
 -- A write failed behind the answers: a front of the lines was written of what is heard of a front of the transmission. Where that has any
--- bit, the noise was there.
+-- bit, the noise was there. As many bits of the noise were read, or all that it had, and where that front has no bit it is as before.
 pub record TriedFront (settings : Parts) (spare : ℕ) (printed : List Bool → List ℕ) (old new : Left ℕ) (noise0 noise : Left Bool) (out0 out : Written ℕ) : Type 0 where
   pub tried : TriedSession settings spare old new
   pub heard : List Bool
@@ -64,6 +71,9 @@ pub record TriedFront (settings : Parts) (spare : ℕ) (printed : List Bool → 
   pub of_noise : IsTrue noise0.tells → noisy_bits heard flips ≡ noisy_bits heard noise0.left
   pub there : IsTrue noise0.tells → heard ≢ [] → IsTrue noise0.there
   pub wrote : WroteFront out0 out (trial_lines printed tried.session (noisy_bits heard flips))
+  pub few : length flips ≤ length heard
+  pub fewer : IsTrue noise0.tells → length flips < length heard → noise.left ≡ []
+  pub untouched : heard ≡ [] → noise ≡ noise0
 
 -- A write failed among the answers, and the noise is as before.
 pub record TriedAnswers (settings : Parts) (spare : ℕ) (old new : Left ℕ) (noise0 noise : Left Bool) (out0 out : Written ℕ) : Type 0 where

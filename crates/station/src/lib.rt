@@ -68,6 +68,8 @@ mod tests;
 mod texts;
 pub mod top;
 pub mod trial;
+#[cfg(test)]
+mod trial_tests;
 
 pub use one_page::one;
 pub use outcomes::tell;

@@ -2,7 +2,7 @@ use Rattle.std.proofs.Common.{◌++◌, ◌+◌, ◌<◌, ◌^◌, ◌∙◌, ap
 use Rattle.wires.specs.Stacked.{noisy_bits}
 use Rattle.wires.proofs.Pieces.{none_left}
 use Rattle.station.proofs.Listens.{prints_as}
-use Rattle.station.proofs.NoisyHeard.{cut_left, few_now, first_long, flipped_long, prints_made, then_heard, through_all, through_begins, through_failed, through_goes_on, through_unprinted, with_left}
+use Rattle.station.proofs.NoisyHeard.{cut_left, few_now, first_long, flipped_long, prints_made, some_left, then_heard, through_all, through_begins, through_failed, through_goes_on, through_unprinted, with_left}
 use Rattle.station.proofs.noise.listen_through.Goals as goal
 
 pub loop-piece-init : goal.loop-piece-init
@@ -21,7 +21,10 @@ loop-piece-init g c =
     }
 
 pub returns-in-Err : goal.returns-in-Err
-returns-in-Err g c = through_failed _ _ _ _ _ _ _ _ _ _ c.in-Err.field-0 c.loop-piece.invariant.so_far.0 c.in-Err.ensures.gives
+returns-in-Err g c =
+    let more = some_left (c.loop-piece.piece ++ (g.A.BitSource.state c.loop-piece.bits).left) c.refill.new.piece (g.A.BitSource.state c.refill.new.bits).left
+    c.refill.ensures.same (c.refill.ensures.some c.loop-piece-test.true) in
+    through_failed _ _ _ _ _ _ _ _ _ _ c.in-Err.field-0 c.loop-piece.invariant.so_far.0 c.in-Err.ensures.gives more
 
 pub returns-in-Err-hear_all : goal.returns-in-Err-hear_all
 returns-in-Err-hear_all g c =
