@@ -11,7 +11,7 @@ use Rattle.air.specs.Air.{filler}
 use Rattle.air.specs.Sends.{words_of}
 use Rattle.air.specs.Left.{with_sync, Gives, Stays}
 use Rattle.air.specs.declared.order.Order.{Order}
-use Rattle.scheduler.proofs.Left.{keeps-same}
+use Rattle.air.proofs.Taking.{Keeps-same}
 use Rattle.air.proofs.WithSync.{with_sync-first}
 
 -- so far has a transmission come
@@ -26,7 +26,7 @@ none_given p q r t d w = λ a h s. subst (λ (l : List Slot). StandsAt a l w d.p
 pub gives_filler : (p q r : ℕ) (d : Sending) (w : Pool) → Follows d w → p ≡ suc q → Gives (Some filler) (order p r d) w (order q r d) w
 gives_filler p q r d w f e =
     subst (λ (n : ℕ). Gives (Some filler) (order n r d) w (order q r d) w) (sym e)
-    (record { follows = f; next = refl; ended = tt; slots = []; has_slot = refl; stands = none_given (suc q) q r r d w; keeps = keeps-same w })
+    (record { follows = f; next = refl; ended = tt; slots = []; has_slot = refl; stands = none_given (suc q) q r r d w; keeps = Keeps-same w })
 
 -- slots have words
 some_words : (slots : List Slot) → slots ≢ [] → words_of slots ≢ []
@@ -46,7 +46,7 @@ gives_sync p r d w f e z some =
       slots = [];
       has_slot = refl;
       stands = none_given 0 0 0 16 d w;
-      keeps = keeps-same w;
+      keeps = Keeps-same w;
     }))
 
 -- the word of a slot
@@ -78,5 +78,5 @@ gives_none p r d w f e none empty =
       slots = [];
       has_slot = refl;
       stands = none_given 0 0 r r d w;
-      keeps = keeps-same w;
+      keeps = Keeps-same w;
     })

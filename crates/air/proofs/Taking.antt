@@ -2,9 +2,12 @@
 use Rattle.std.proofs.Common.{◌≡◌, ◌≢◌, ℕ, zero, suc, ◌+◌, ◌≤◌, ◌<◌, List, [], ◌∷◌, ◌++◌, length, map, take, drop, refl, sym, ◌∙◌, ap, arith, add-one, append_assoc, length-drop}
 use Rattle.std.proofs.lemmas.List.{map-append}
 use Rattle.codeword.specs.declared.words.TheConstants.{SYNC}
+use Rattle.page_pool.specs.Pool.{Pool}
 use Rattle.scheduler.specs.Said.{word_in, heads_in}
+use Rattle.scheduler.specs.Sendings.{Keeps}
 use Rattle.scheduler.specs.declared.slots.Slot.{Slot}
 use Rattle.scheduler.specs.declared.slots.Slot.TheVariants.{Idle, Address, Message}
+use Rattle.scheduler.proofs.Left.{keeps-same, keeps-then}
 
 -- one is taken
 record OneMore {A : Type 0} (xs new : List A) (i : ℕ) (x : A) : Type 0 where
@@ -44,3 +47,10 @@ pub one_head : (slot : Slot) → heads_in slot ≤ 1
 one_head Idle = omega arith
 one_head (Address capcode function) = omega arith
 one_head (Message group) = omega arith
+
+-- what stays, stays
+pub Keeps-then : (a b c : Pool) → Keeps a b → Keeps b c → Keeps a c
+Keeps-then a b c h k = keeps-then a b c h k
+
+pub Keeps-same : (a : Pool) → Keeps a a
+Keeps-same a = keeps-same a

@@ -4,8 +4,7 @@ use Rattle.codeword.specs.declared.words.TheConstants.{SYNC}
 use Rattle.scheduler.specs.Pooled.{Stands, slots_left}
 use Rattle.scheduler.specs.Said.{word_in}
 use Rattle.scheduler.specs.declared.slots.Slot.{Slot}
-use Rattle.scheduler.proofs.Left.{keeps-same, keeps-then}
-use Rattle.air.proofs.Taking.{drop-more, given-more, one_head, some-left, words-more}
+use Rattle.air.proofs.Taking.{drop-more, given-more, Keeps-same, Keeps-then, one_head, some-left, words-more}
 use Rattle.air.proofs.sender.batch.Goals as goal
 
 pub loop-init : goal.loop-init
@@ -14,7 +13,7 @@ loop-init g c = record {
   words = c.push.ensures.items ∙ ap (λ l. l ++ SYNC ∷ []) c.new-words.ensures;
   left = refl;
   stands = λ a h s. subst (λ (l : List Slot). Stands a l c.args.schedule.now) (sym (append-nil h)) s;
-  keeps = keeps-same _;
+  keeps = Keeps-same _;
   later = omega arith;
   heads = omega arith;
 }
@@ -46,7 +45,7 @@ loop-preserved g c =
       left = drop-more (slots_left c.args.schedule.now) _ _ c.loop.counter c.slot.result i.left s.gives;
       stands = λ a h x. subst (λ (l : List Slot). Stands a l c.slot.new.self)
           (given-more h (slots_left c.args.schedule.now) _ _ c.loop.counter c.slot.result i.left s.gives) (s.stands a (h ++ take c.loop.counter (slots_left c.args.schedule.now)) (i.stands a h x));
-      keeps = keeps-then _ _ _ i.keeps s.keeps;
+      keeps = Keeps-then _ _ _ i.keeps s.keeps;
       later = omega (arith, i.later, s.heads);
       heads = omega (arith, i.heads, s.heads, one_head c.slot.result);
     }

@@ -6,7 +6,7 @@ use Rattle.scheduler.specs.declared.slots.Slot.{Slot}
 use Rattle.scheduler.proofs.Standing.{held-stands, slots-stands}
 use Rattle.air.specs.Air.{batches, preamble}
 use Rattle.air.specs.Sends.{words_of}
-use Rattle.scheduler.proofs.Left.{keeps-same, keeps-then}
+use Rattle.air.proofs.Taking.{Keeps-same, Keeps-then}
 use Rattle.air.proofs.Handing.{all_batches, all_sent, batch_failed, batch_is, batch_sent, left_batch, on_err, preamble_failed, room_batch, shorter_batch, stops_batch, stops_preamble, taken_batch}
 use Rattle.air.proofs.sender.send.Goals as goal
 
@@ -31,7 +31,7 @@ loop-schedule-init g c = record {
   within = omega arith;
   puts = c.in_ok-send_preamble.ensures;
   stands = λ a h s. subst (λ (l : List Slot). Stands a l c.args.schedule.now) (sym (append-nil h)) s;
-  keeps = keeps-same _;
+  keeps = Keeps-same _;
   later = omega arith;
   heads = omega arith;
 }
@@ -89,7 +89,7 @@ loop-schedule-preserved g c =
       stands = λ a h s. subst (λ (l : List Slot). Stands a l c.batch-words.new.schedule)
           (append_assoc h (take (16 * k) slots) (take 16 (slots_left c.loop-schedule.schedule)) ∙ ap (λ l. h ++ l) (taken_batch slots (slots_left c.loop-schedule.schedule) k i.left))
           (b.stands a (h ++ take (16 * k) slots) (i.stands a h s));
-      keeps = keeps-then _ _ _ i.keeps b.keeps;
+      keeps = Keeps-then _ _ _ i.keeps b.keeps;
       later = omega (arith, i.later, b.later);
       heads = omega (arith, i.heads, b.heads);
     })
@@ -108,7 +108,7 @@ returns-clause-batches g c =
     (c.loop-schedule-test.ensures.end.0 refl)
 
 pub returns-in_err-send_preamble-clause-keeps : goal.returns-in_err-send_preamble-clause-keeps
-returns-in_err-send_preamble-clause-keeps g c = keeps-same _
+returns-in_err-send_preamble-clause-keeps g c = Keeps-same _
 
 pub returns-in_err-words-clause-keeps : goal.returns-in_err-words-clause-keeps
-returns-in_err-words-clause-keeps g c = keeps-then _ _ _ c.loop-schedule.invariant.keeps c.batch-words.ensures.keeps
+returns-in_err-words-clause-keeps g c = Keeps-then _ _ _ c.loop-schedule.invariant.keeps c.batch-words.ensures.keeps

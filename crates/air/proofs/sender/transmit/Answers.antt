@@ -2,7 +2,7 @@ use Rattle.std.proofs.Common.{sym, ◌∙◌, ap}
 use Rattle.page_pool.specs.Pool.{pages}
 use Rattle.scheduler.specs.Pooled.{slots_left}
 use Rattle.scheduler.proofs.Standing.{whole-slots}
-use Rattle.scheduler.proofs.Left.{keeps-same}
+use Rattle.air.proofs.Taking.{Keeps-same}
 use Rattle.air.proofs.Handing.{Puts-ok}
 use Rattle.air.proofs.Whole.{countable, few_batches, has_batches, none_live, Puts-err, sends_some, some_pages}
 use Rattle.air.proofs.sender.transmit.Goals as goal
@@ -42,4 +42,4 @@ returns-clause-empties g c =
     none_live c.pool-1.given.0 (ap pages same ∙ c.in_ok-batches.ensures.empties)
 
 pub returns-then-pages-eq0-clause-keeps : goal.returns-then-pages-eq0-clause-keeps
-returns-then-pages-eq0-clause-keeps g c = keeps-same _
+returns-then-pages-eq0-clause-keeps g c = Keeps-same _
