@@ -126,13 +126,13 @@ fn each_call_fails(
     cases: &[Case],
 ) -> Result<(), Fail> {
     let whole = ran(alloc, command, &[])?;
-    let mut calls = 0usize;
+    let mut calls = 0;
     for number in 1..TOO_MANY {
         let left = ran(alloc, command, &[(object, number)])?;
         if !left.failed {
             break;
         }
-        let Some(case) = cases.get(calls) else {
+        let Some(case) = cases.get(calls as usize) else {
             return Err(Fail::from("there are more calls than those of the table"));
         };
         compare(rt, case, &whole, &left);
@@ -141,9 +141,9 @@ fn each_call_fails(
             assert!(rt; untold.failed, "{}", case.0);
             compare_without_line(rt, case.0, &left, &untold);
         }
-        calls += 1;
+        calls = number;
     }
-    assert_eq!(rt; calls, cases.len(), "the calls of a table");
+    assert_eq!(rt; calls as usize, cases.len(), "the calls of a table");
     Ok(())
 }
 
@@ -181,9 +181,9 @@ fn each_call_of_a_table_fails(rt: HostRuntime) -> Result<(), Fail> {
 
 /// Makes each put of an output fail in turn, and gives how many there are. At each a longer front of the whole output stands, and all
 /// that isn't printed is as where nothing fails. No line is put about it.
-fn each_put_fails(rt: &impl Abort, alloc: Global, command: Command) -> Result<usize, Fail> {
+fn each_put_fails(rt: &impl Abort, alloc: Global, command: Command) -> Result<u64, Fail> {
     let whole = ran(alloc, command, &[])?;
-    let mut puts = 0usize;
+    let mut puts = 0;
     let mut printed = 0usize;
     for number in 1..TOO_MANY {
         let left = ran(alloc, command, &[(Object::Output, number)])?;
@@ -215,7 +215,7 @@ fn each_put_fails(rt: &impl Abort, alloc: Global, command: Command) -> Result<us
         );
         assert!(rt; left.others_stand, "{command:?} {number}");
         printed = left.out.len();
-        puts += 1;
+        puts = number;
     }
     Ok(puts)
 }
@@ -230,16 +230,16 @@ fn an_output_that_fails_has_a_front(rt: HostRuntime) -> Result<(), Fail> {
 }
 
 /// Makes each put of an error stream fail in turn, and gives how many there are.
-fn each_line_fails(rt: &impl Abort, alloc: Global, command: Command) -> Result<usize, Fail> {
+fn each_line_fails(rt: &impl Abort, alloc: Global, command: Command) -> Result<u64, Fail> {
     let whole = ran(alloc, command, &[])?;
-    let mut lines = 0usize;
+    let mut lines = 0;
     for number in 1..TOO_MANY {
         let left = ran(alloc, command, &[(Object::Errors, number)])?;
         if !left.failed {
             break;
         }
         compare_without_line(rt, "the line about the status", &whole, &left);
-        lines += 1;
+        lines = number;
     }
     Ok(lines)
 }

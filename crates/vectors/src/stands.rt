@@ -279,7 +279,7 @@ pub(crate) const SHOW_CALLS: &[Calls] = &[
 
 /// How many pieces each run puts to the output, and how many lines about its status. A line of a page is put in two pieces, the
 /// receiver's number and the rest. Only some pages of the client are sent, which is a status with a line.
-pub(crate) const PUTS: &[(Command, usize, usize)] = &[
+pub(crate) const PUTS: &[(Command, u64, u64)] = &[
     (Command::Station, 1, 0),
     (Command::Trial, 7, 0),
     (Command::Send, 2, 1),
