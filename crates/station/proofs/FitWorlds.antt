@@ -1,5 +1,5 @@
 -- Steady objects are fit for a command where they have enough room.
-use Rattle.std.proofs.Common.{◌≡◌, inl, inr, ℕ, zero, suc, ◌+◌, ◌*◌, ◌<◌, ◌≤◌, Bool, List, [], ◌∷◌, ◌++◌, length, length-append, codes, decimal, Option, Some, None, Result, Ok, Err, IsTrue, refl, ap, ap₂, subst, arith}
+use Rattle.std.proofs.Common.{◌≡◌, inl, inr, ℕ, zero, suc, ◌+◌, ◌*◌, ◌<◌, ◌≤◌, Bool, List, [], ◌∷◌, ◌++◌, length, length-append, codes, decimal, Option, Some, None, Result, Ok, Err, refl, ap, ap₂, subst, arith}
 use Rattle.std.proofs.lemmas.Bool.{cases_lt}
 use Rattle.std.proofs.lemmas.Fmt.{length-decimal-le}
 use Rattle.air.specs.Air.{IsAir, transmission}
@@ -28,14 +28,14 @@ use Rattle.station.specs.declared.statuses.Status.TheVariants.{Done, Usage, Sett
 use Rattle.station.specs.AirRoom.{most_air, most_said}
 use Rattle.station.specs.AlphaPage.{alpha_page}
 use Rattle.station.specs.Commands.{Command, One, Play, Send, Show, Station, Trial}
-use Rattle.station.specs.FitWorlds.{roomy_connection, AreSteady, FitErrWithRoom, FitInMemory, FitWithRoom, HasFiles, world, roomy}
+use Rattle.station.specs.FitWorlds.{roomy_connection, AreSteady, FitErrWithRoom, FitInMemory, FitWithRoom, HasFiles, longest_line_about, world, roomy}
 use Rattle.station.specs.LoneBlock.{HasText}
 use Rattle.station.specs.OneOutcome.{bits_listened}
 use Rattle.station.specs.OneRun.{line_about}
 use Rattle.station.specs.OneSend.{FitSend}
 use Rattle.station.specs.OneStation.{FitStation}
 use Rattle.station.specs.OneTrial.{FitTrial}
-use Rattle.station.specs.Outcomes.{pages_line, settings_line}
+use Rattle.station.specs.Outcomes.{pages_line}
 use Rattle.station.specs.PageLines.{play_lines}
 use Rattle.station.specs.ReportLine.{longest_line}
 use Rattle.station.specs.Rows.{Acts, Objects, around}
@@ -45,6 +45,7 @@ use Rattle.station.specs.Table.{table_of}
 use Rattle.station.specs.Trying.{trial_lines}
 use Rattle.station.proofs.AirRooms.{air_few, shelf_fits}
 use Rattle.station.proofs.CallRooms.{call_fits}
+use Rattle.station.proofs.EntryNumbers.{refusal_few}
 use Rattle.station.proofs.OneAir.{one_air}
 
 -- ---- sums of the first values of a function
@@ -217,49 +218,35 @@ misread_few bytes (Pages.Line n) h =
     omega (arith, d, a, b)
 misread_few bytes Pages.Memory h = omega arith
 
-abbrev refusal_room : Result Parts SettingsFault → ℕ
-refusal_room (Ok parts) = 0
-refusal_room (Err fault) = length (settings_line fault)
-
-refusal_fits : (x : Result Parts SettingsFault) (fault : SettingsFault) → x ≡ Err fault → length (settings_line fault) ≤ refusal_room x
-refusal_fits x fault e = omega (arith, ap refusal_room e)
-
-abbrev err_room : Option Command → Objects → ℕ
-err_room (Some (Station address settings air count)) old = 32 + refusal_room (settings_of (old.shelf.file settings))
-err_room (Some (Trial settings noise capcodes)) old = 32 + refusal_room (settings_of (old.shelf.file settings))
-err_room other old = 32
-
-err_fits : (command : Option Command) (old new : Objects) (outcome : Outcome) → IsTrue old.shelf.tells → Acts command old new outcome → length (line_about outcome) ≤ err_room command old
-err_fits None old new outcome t h = omega (arith, ap (λ (z : Outcome). length (line_about z)) h.0)
-err_fits (Some (One capcode)) old new (Ended status) t h = status_few status
-err_fits (Some (One capcode)) old new (Refused fault) t h = elim h [ ]
-err_fits (Some (One capcode)) old new (Misread fault) t h = elim h [ ]
-err_fits (Some (Play air capcodes)) old new (Ended status) t h = status_few status
-err_fits (Some (Play air capcodes)) old new (Refused fault) t h = elim h [ ]
-err_fits (Some (Play air capcodes)) old new (Misread fault) t h = elim h [ ]
-err_fits (Some (Show air)) old new (Ended status) t h = status_few status
-err_fits (Some (Show air)) old new (Refused fault) t h = elim h [ ]
-err_fits (Some (Show air)) old new (Misread fault) t h = elim h [ ]
-err_fits (Some (Station address settings air count)) old new (Ended status) t h = let a = status_few status in omega (arith, a)
-err_fits (Some (Station address settings air count)) old new (Refused fault) t h = let a = refusal_fits (settings_of (old.shelf.file settings)) fault (h.row.0.refused t) in omega (arith, a)
-err_fits (Some (Station address settings air count)) old new (Misread fault) t h = elim h.row [ ]
-err_fits (Some (Trial settings noise capcodes)) old new (Ended status) t h = let a = status_few status in omega (arith, a)
-err_fits (Some (Trial settings noise capcodes)) old new (Refused fault) t h = let a = refusal_fits (settings_of (old.shelf.file settings)) fault (h.row.0.refused t) in omega (arith, a)
-err_fits (Some (Trial settings noise capcodes)) old new (Misread fault) t h = elim h.row [ ]
-err_fits (Some (Send address pages)) old new (Ended status) t h = status_few status
-err_fits (Some (Send address pages)) old new (Refused fault) t h = elim h.row [ ]
-err_fits (Some (Send address pages)) old new (Misread Pages.Memory) t h = elim h.row [ ]
-err_fits (Some (Send address pages)) old new (Misread fault) t h = misread_few (old.shelf.file pages) fault (h.row.0.refused t)
+-- the line about whatever a command comes to
+err_few : (command : Option Command) (old new : Objects) (outcome : Outcome) → Acts command old new outcome → length (line_about outcome) ≤ longest_line_about
+err_few None old new outcome h = omega (arith, ap (λ (z : Outcome). length (line_about z)) h.0)
+err_few (Some (One capcode)) old new (Ended status) h = let a = status_few status in omega (arith, a)
+err_few (Some (One capcode)) old new (Refused fault) h = elim h [ ]
+err_few (Some (One capcode)) old new (Misread fault) h = elim h [ ]
+err_few (Some (Play air capcodes)) old new (Ended status) h = let a = status_few status in omega (arith, a)
+err_few (Some (Play air capcodes)) old new (Refused fault) h = elim h [ ]
+err_few (Some (Play air capcodes)) old new (Misread fault) h = elim h [ ]
+err_few (Some (Show air)) old new (Ended status) h = let a = status_few status in omega (arith, a)
+err_few (Some (Show air)) old new (Refused fault) h = elim h [ ]
+err_few (Some (Show air)) old new (Misread fault) h = elim h [ ]
+err_few (Some (Station address settings air count)) old new (Ended status) h = let a = status_few status in omega (arith, a)
+err_few (Some (Station address settings air count)) old new (Refused fault) h = refusal_few h.row.0.seen fault h.row.0.of_seen
+err_few (Some (Station address settings air count)) old new (Misread fault) h = elim h.row [ ]
+err_few (Some (Trial settings noise capcodes)) old new (Ended status) h = let a = status_few status in omega (arith, a)
+err_few (Some (Trial settings noise capcodes)) old new (Refused fault) h = refusal_few h.row.0.seen fault h.row.0.of_seen
+err_few (Some (Trial settings noise capcodes)) old new (Misread fault) h = elim h.row [ ]
+err_few (Some (Send address pages)) old new (Ended status) h = let a = status_few status in omega (arith, a)
+err_few (Some (Send address pages)) old new (Refused fault) h = elim h.row [ ]
+err_few (Some (Send address pages)) old new (Misread Pages.Memory) h = elim h.row [ ]
+err_few (Some (Send address pages)) old new (Misread fault) h = let a = misread_few h.row.0.seen fault h.row.0.of_seen in omega (arith, a)
 
 pub fit_err_with_room : FitErrWithRoom
-fit_err_with_room command old t = (
-  err_room command old,
-  λ err tells steady le. record {
-    tells = tells;
-    steady = steady;
-    room = λ new outcome acts. let a = err_fits command old new outcome t acts in omega (arith, a, le);
-  },
-)
+fit_err_with_room command old tells steady le = record {
+  tells = tells;
+  steady = steady;
+  room = λ new outcome acts. let a = err_few command old.objects new outcome acts in omega (arith, a, le);
+}
 
 -- ---- objects in memory
 
@@ -275,27 +262,10 @@ has_files (Some (Send address pages)) heard input file = (refl, omega arith)
 steady_world : (heard input : List ℕ) (file : List ℕ → List ℕ) → AreSteady (world heard file input)
 steady_world heard input file = record { wire_tells = refl; wire_steady = refl; shelf_tells = refl; shelf_steady = refl; input_tells = refl; input_steady = refl; out_tells = refl; out_steady = refl }
 
--- the line about an outcome takes no more where there is more room
-same_err : (command : Option Command) (room : ℕ) (old : Objects) → err_room command (roomy room old) ≡ err_room command old
-same_err None room old = refl
-same_err (Some (One capcode)) room old = refl
-same_err (Some (Play air capcodes)) room old = refl
-same_err (Some (Show air)) room old = refl
-same_err (Some (Station address settings air count)) room old = refl
-same_err (Some (Trial settings noise capcodes)) room old = refl
-same_err (Some (Send address pages)) room old = refl
-
 pub fit_in_memory : FitInMemory
 fit_in_memory command heard input file =
     let old = world heard file input in
     let fit = fit_with_room command old (steady_world heard input file) (has_files command heard input file) in (
-      fit.0 + err_room command old,
-      λ room le. (
-        fit.1 room (omega (arith, le)),
-        record {
-          tells = refl;
-          steady = refl;
-          room = λ new outcome acts. let a = err_fits command (roomy room old) new outcome refl acts in omega (arith, a, le, same_err command room old);
-        },
-      ),
+      fit.0 + longest_line_about,
+      λ room le. (fit.1 room (omega (arith, le)), fit_err_with_room command _ refl refl (omega (arith, le))),
     )

@@ -68,5 +68,6 @@ pub mod AirRooms
 pub mod CallRooms
 pub mod OneCommands
 pub mod OneRuns
+pub mod EntryNumbers
 pub mod FitWorlds
 pub mod OneSettings

@@ -4,7 +4,6 @@ use Rattle.air.specs.Air.{IsAir}
 use Rattle.bits.specs.Bits.{bytes_bits}
 use Rattle.tap_block.specs.Chars.{characters}
 use Rattle.wires.proofs.Written.{still}
-use Rattle.wires.specs.Held.{Bytes, Held}
 use Rattle.wires.specs.Stacked.{are_bytes}
 use Rattle.wires.specs.Left.{Left}
 use Rattle.wires.specs.Written.{Written}
@@ -15,9 +14,7 @@ use Rattle.station.specs.LoneBlock.{HasText}
 use Rattle.station.specs.OneOutcome.{FitOne, OneOne, SameOutcome}
 use Rattle.station.specs.Rows.{OneRow, PageSent, ReadBadText, ReadBlock, ReadNoBlock, Streams}
 use Rattle.station.proofs.OneAir.{one_air}
-use Rattle.station.specs.Wrote.{as_bits}
-use Rattle.station.proofs.Appended.{told_back}
-use Rattle.station.proofs.OneBytes.{one_bytes}
+use Rattle.station.proofs.OneBytes.{one_bytes, still_bytes}
 use Rattle.station.proofs.OneAnswer.{one_block, one_text}
 
 -- two readings of a block
@@ -86,13 +83,6 @@ pair c old new other BadText another fit h k some some2 = elim k [ ]
 pair c old new other status another fit h k some some2 = elim h [ ]
 
 -- ---- bytes
-
-abbrev bytes_of : List Held → Bool
-bytes_of (Bytes b ∷ ls) = b
-bytes_of _ = true
-
-still_bytes : (old new : Written ℕ) → IsTrue old.tells → new.tells ≡ old.tells → (as_bits new).lent ≡ (as_bits old).lent → IsTrue (are_bytes old.held) → IsTrue (are_bytes new.held)
-still_bytes old new t same lent b = still (told_back old.tells new.tells (are_bytes old.held) (are_bytes new.held) same t (ap bytes_of lent)) b
 
 unchanged_bytes : (old new : Written ℕ) → new ≡ old → IsTrue (are_bytes old.held) → IsTrue (are_bytes new.held)
 unchanged_bytes old new e b = still (ap (λ (o : Written ℕ). are_bytes o.held) e) b

@@ -44,6 +44,8 @@ read_pages name a b bytes seen told same read file = record {
   unharmed = read.unharmed;
   there = read.there;
   pages_are = λ t. is_file (a.file name) told (subst (λ (xs : List ℕ). IsFile xs told) (same ∙ read.bytes_are t) file);
+  seen = seen;
+  of_seen = file;
 }
 
 -- the file is refused
@@ -51,7 +53,13 @@ unsent : (address name : List ℕ) (w : Line) (a b : Files) (o : Written ℕ) (b
     → (fault ≡ Pages.Memory → ⊥) → SendRow address name (record { wire = w; shelf = a; out = o }) (record { wire = w; shelf = b; out = o }) (Misread fault)
 unsent address name w a b o bytes seen Pages.Memory same read refused other = absurd (other refl)
 unsent address name w a b o bytes seen fault same read refused other = (
-  record { unharmed = read.unharmed; there = read.there; refused = λ t. is_refused (a.file name) fault (subst (λ (xs : List ℕ). IsRefused xs fault) (same ∙ read.bytes_are t) refused) },
+  record {
+    unharmed = read.unharmed;
+    there = read.there;
+    refused = λ t. is_refused (a.file name) fault (subst (λ (xs : List ℕ). IsRefused xs fault) (same ∙ read.bytes_are t) refused);
+    seen = seen;
+    of_seen = refused;
+  },
   record { wire = refl; out = refl },
 )
 

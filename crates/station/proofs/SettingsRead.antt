@@ -35,6 +35,8 @@ read_settings name a b bytes seen settings same read answer = record {
   unharmed = read.unharmed;
   there = read.there;
   settings_are = λ t. sym (settings_of-take (a.file name)) ∙ (ap settings_of (sym (same ∙ read.bytes_are t)) ∙ given answer);
+  seen = seen;
+  of_seen = given answer;
 }
   where
     given : IsOrMemory (Ok settings) (settings_of seen) → settings_of seen ≡ Ok settings
@@ -53,8 +55,13 @@ pub no_settings : (name : List ℕ) (a b : Files) (bytes seen : List ℕ) (fault
     → r ≡ Err fault → IsOrMemory r (settings_of seen) → IsUnopened fault why → ReadsSettings name a b (Err why)
 no_settings name a b bytes seen fault NotOpened.Fault r same read e answer h = elim h [ ]
 no_settings name a b bytes seen fault NotOpened.Memory r same read e answer h = read.unharmed
-no_settings name a b bytes seen fault (NotOpened.Refused other) r same read e answer h = record {
-  unharmed = read.unharmed;
-  there = read.there;
-  refused = λ t. sym (settings_of-take (a.file name)) ∙ (ap settings_of (sym (same ∙ read.bytes_are t)) ∙ (refused fault seen r e h.1 answer ∙ ap (λ (f : SettingsFault). Err f) (sym h.0)));
-}
+no_settings name a b bytes seen fault (NotOpened.Refused other) r same read e answer h =
+    let of_seen : settings_of seen ≡ Err other = refused fault seen r e h.1 answer ∙ ap (λ (f : SettingsFault). Err f) (sym h.0) in
+    record {
+      unharmed = read.unharmed;
+      there = read.there;
+      refused = λ t. sym (settings_of-take (a.file name)) ∙ (ap settings_of (sym (same ∙ read.bytes_are t)) ∙ of_seen);
+      seen = seen;
+      of_seen = of_seen;
+      not_memory = λ m. h.1 (sym h.0 ∙ m);
+    }

@@ -7,7 +7,7 @@ use Rattle.wires.specs.Line.{Line}
 use Rattle.wires.specs.Written.{Written}
 use Rattle.station.specs.Commands.{Command, One, Play, Send, Show, Station, Trial}
 use Rattle.station.specs.OneRun.{FitErr, FitRun}
-use Rattle.station.specs.Rows.{Objects, Streams}
+use Rattle.station.specs.Rows.{Objects, Outside, Streams}
 
 -- The objects tell what they hold, and are steady.
 pub record AreSteady (old : Objects) : Type 0 where
@@ -53,9 +53,13 @@ HasFiles (Some (Send address pages)) old = IsTrue (old.shelf.there pages) × (ol
 abbrev pub FitWithRoom : Type 0
 FitWithRoom = (command : Option Command) (old : Objects) → AreSteady old → HasFiles command old → (enough : ℕ) × ((room : ℕ) → enough ≤ room → FitRun command (roomy room old))
 
--- A steady output of errors is fit wherever it has so much room or more.
+-- The longest line about what a command comes to: that of an id which stands twice, at the entry 10000.
+abbrev pub longest_line_about : ℕ
+longest_line_about = 42
+
+-- A steady output of errors is fit for each command wherever it has room for the longest line.
 abbrev pub FitErrWithRoom : Type 0
-FitErrWithRoom = (command : Option Command) (old : Objects) → IsTrue old.shelf.tells → (enough : ℕ) × ((err : Written ℕ) → IsTrue err.tells → IsTrue err.steady → enough ≤ err.room → FitErr command (record { objects = old; err = err }))
+FitErrWithRoom = (command : Option Command) (old : Outside) → IsTrue old.err.tells → IsTrue old.err.steady → longest_line_about ≤ old.err.room → FitErr command old
 
 -- ---- objects in memory
 

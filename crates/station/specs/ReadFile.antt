@@ -1,5 +1,5 @@
 -- Files that are read into memory, and the settings that one gives.
-use Rattle.std.specs.Prelude.{◌≡◌, ℕ, List, take, Result, Ok, Err, IsTrue, Vec}
+use Rattle.std.specs.Prelude.{◌≡◌, ◌≢◌, ℕ, List, take, Result, Ok, Err, IsTrue, Vec}
 use Rattle.std.specs.declared.alloc.Global.{Global}
 use Rattle.subscribers.specs.Parts.{Parts}
 use Rattle.subscribers.specs.Settings.{settings_of}
@@ -46,17 +46,23 @@ ReadsFile name old new (Ok bytes) = ReadInto name old new bytes.items
 ReadsFile name old new (Err NotRead.Fault) = Unreadable name old new
 ReadsFile name old new (Err NotRead.Memory) = Unharmed name old new
 
--- The file was there and was read, and gives these settings.
+-- The file was there and was read, and gives these settings. Those of a shelf that doesn't tell are the settings of some bytes.
 pub record ReadSettings (name : List ℕ) (old new : Files) (settings : Parts) : Type 0 where
   pub unharmed : Unharmed name old new
   pub there : IsTrue old.tells → IsTrue (old.there name)
   pub settings_are : IsTrue old.tells → settings_of (old.file name) ≡ Ok settings
+  pub seen : List ℕ
+  pub of_seen : settings_of seen ≡ Ok settings
 
--- The file was there and was read, and is refused for this fault.
+-- The file was there and was read, and is refused for this fault, which isn't want of memory. Where the shelf doesn't tell, some bytes are
+-- refused for it.
 pub record RefusedSettings (name : List ℕ) (old new : Files) (fault : SettingsFault) : Type 0 where
   pub unharmed : Unharmed name old new
   pub there : IsTrue old.tells → IsTrue (old.there name)
   pub refused : IsTrue old.tells → settings_of (old.file name) ≡ Err fault
+  pub seen : List ℕ
+  pub of_seen : settings_of seen ≡ Err fault
+  pub not_memory : fault ≢ NoMemory
 
 -- a read of a settings file
 abbrev pub ReadsSettings : List ℕ → Files → Files → Result Parts Unopened → Type 0

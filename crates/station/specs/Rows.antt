@@ -23,7 +23,7 @@ use Rattle.station.specs.SendRows.{SendRow}
 use Rattle.station.specs.Serving.{Around}
 use Rattle.station.specs.StationRows.{StationRow, TrialRow}
 use Rattle.station.specs.Table.{table_of}
-use Rattle.station.specs.Wrote.{as_bits, Wrote, WroteFront}
+use Rattle.station.specs.Wrote.{as_bits, AppendsBytes, Wrote, WroteFront}
 
 -- what the input and the output of a command tell
 pub record Streams : Type 0 where
@@ -79,12 +79,13 @@ pub record PageSent (capcode : ℕ) (old new : Left ℕ) : Type 0 where
   pub bits : List Bool
   pub air : IsAir (alpha_page capcode text ∷ []) bits
 
--- `one`, by its status. Done: the bits of the transmission of the page were written. OutFault: a write failed after a front of them.
+-- `one`, by its status. Done: the bits of the transmission of the page were written, as bytes. OutFault: a write failed after a front of
+-- them.
 -- NotBlock: the input isn't one block. BadSum: its trailer is wrong. BadText: its content has no text. InputFault: a read failed.
 -- Memory: there was none, and nothing was read or written. No other status is answered.
 abbrev pub OneRow : ℕ → Streams → Streams → Status → Type 0
-OneRow capcode old new Done = (sent : PageSent capcode old.input new.input) × Wrote (as_bits old.out) (as_bits new.out) sent.bits
-OneRow capcode old new OutFault = (sent : PageSent capcode old.input new.input) × WroteFront (as_bits old.out) (as_bits new.out) sent.bits
+OneRow capcode old new Done = (sent : PageSent capcode old.input new.input) × Wrote (as_bits old.out) (as_bits new.out) sent.bits × AppendsBytes old.out new.out
+OneRow capcode old new OutFault = (sent : PageSent capcode old.input new.input) × WroteFront (as_bits old.out) (as_bits new.out) sent.bits × AppendsBytes old.out new.out
 OneRow capcode old new NotBlock = ReadNoBlock old.input new.input × (new.out ≡ old.out)
 OneRow capcode old new BadSum = ReadBadSum old.input new.input × (new.out ≡ old.out)
 OneRow capcode old new BadText = ReadBadText old.input new.input × (new.out ≡ old.out)

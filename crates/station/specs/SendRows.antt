@@ -13,17 +13,21 @@ use Rattle.station.specs.ReadFile.{Unharmed, Unreadable}
 use Rattle.station.specs.Serving.{Around}
 use Rattle.station.specs.StationRows.{KeepsAround}
 
--- The file was there and was read, and says these pages.
+-- The file was there and was read, and says these pages. Where the shelf doesn't tell, some bytes say them.
 pub record ReadPages (name : List ℕ) (old new : Files) (told : Told) : Type 0 where
   pub unharmed : Unharmed name old new
   pub there : IsTrue old.tells → IsTrue (old.there name)
   pub pages_are : IsTrue old.tells → IsFile (old.file name) told
+  pub seen : List ℕ
+  pub of_seen : IsFile seen told
 
--- The file was there and was read, and is refused for this fault.
+-- The file was there and was read, and is refused for this fault. Where the shelf doesn't tell, some bytes are refused for it.
 pub record RefusedPages (name : List ℕ) (old new : Files) (fault : PagesFault) : Type 0 where
   pub unharmed : Unharmed name old new
   pub there : IsTrue old.tells → IsTrue (old.there name)
   pub refused : IsTrue old.tells → IsRefused (old.file name) fault
+  pub seen : List ℕ
+  pub of_seen : IsRefused seen fault
 
 -- The pages were read, and a client sent them to the address. No file changed.
 pub record SentBy (address name : List ℕ) (old new : Around) (status : Status) : Type 0 where

@@ -3,7 +3,7 @@ use Rattle.std.specs.Prelude.{◌≡◌, ℕ, ◌*◌, ◌+◌, ◌≤◌, Bool,
 use Rattle.bits.specs.Bits.{bytes_bits}
 use Rattle.wires.specs.Causes.{Rose}
 use Rattle.wires.specs.Held.{Bytes}
-use Rattle.wires.specs.Stacked.{holds_bytes}
+use Rattle.wires.specs.Stacked.{are_bytes, holds_bytes}
 use Rattle.wires.specs.Written.{Written, AppendsFront}
 
 -- a sink of bytes as a sink of their bits. Only bytes are written to it
@@ -34,3 +34,7 @@ pub record WroteFront {A : Type 0} (old new : Written A) (piece : List A) : Type
   pub unfit : IsTrue old.tells → IsTrue old.steady → length piece ≤ old.room → ⊥
   pub faults : Rose old.faults new.faults
   pub lent : new.lent ≡ old.lent
+
+-- Where a sink holds bytes, what was appended to it are bytes.
+abbrev pub AppendsBytes : Written ℕ → Written ℕ → Type 0
+AppendsBytes old new = IsTrue old.tells → IsTrue (are_bytes old.held) → (piece : List ℕ) × IsTrue (are_bytes piece) × (new.held ≡ old.held ++ piece)

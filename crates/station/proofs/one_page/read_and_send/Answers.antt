@@ -1,5 +1,6 @@
 use Rattle.std.proofs.Common.{Bool, false, refl, subst, true}
 use Rattle.station.specs.LoneBlock.{IsMarkedBlock}
+use Rattle.station.proofs.OneBytes.{bytes_front, bytes_wrote}
 use Rattle.station.proofs.OnePages.{read_block, read_no_block}
 use Rattle.station.proofs.one_page.read_and_send.Goals as goal
 
@@ -46,6 +47,7 @@ returns-in-Ok-send g c = (
     air = (c.in-Ok-send.ensures _ c.put.ensures).air;
   },
   (c.in-Ok-send.ensures _ c.put.ensures).sends,
+  bytes_wrote _ _ _ (c.in-Ok-send.ensures _ c.put.ensures).sends,
 )
 
 pub returns-in-Err-send : goal.returns-in-Err-send
@@ -61,4 +63,5 @@ returns-in-Err-send g c = (
     air = (c.in-Err-send.ensures _ c.put.ensures).air;
   },
   (c.in-Err-send.ensures _ c.put.ensures).sends,
+  bytes_front _ _ _ (c.in-Err-send.ensures _ c.put.ensures).sends,
 )
