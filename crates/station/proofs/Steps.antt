@@ -15,7 +15,8 @@ use Rattle.wires.specs.Held.{Connection}
 use Rattle.wires.specs.Line.{Hears, Line, Says, last}
 use Rattle.station.specs.Sessions.{Fits, IsTurn, SessionOf, StandsFor, UnderWay}
 use Rattle.station.specs.Talk.{Calm, IsFront, Talked, here}
-use Rattle.station.proofs.Decisions.{Fed, cells_gain, characters_on, fits_front, no_end_on, not_end, pages_on, replies_on}
+use Rattle.tap_terminal.proofs.Cells.{cells_gain}
+use Rattle.station.proofs.Decisions.{Fed, characters_on, fits_front, no_end_on, not_end, pages_on, replies_on}
 use Rattle.station.proofs.Lists.{all-append, all-map, front_append, front_same, front_then, splice}
 use Rattle.station.proofs.Talks.{calm_hears, calm_nothing, calm_says, talked_hears, talked_nothing, talked_says}
 
