@@ -2,7 +2,7 @@
 use Rattle.std.specs.Prelude.{◌≡◌, ℕ, zero, suc, ◌+◌, ◌*◌, ◌≤◌, Bool, true, false, List, [], ◌∷◌, ◌++◌, length, replicate, Option, Some, None, MatchOption}
 use Rattle.codeword.specs.declared.words.TheConstants.{SYNC}
 use Rattle.page_text.specs.Page.{Page}
-use Rattle.page_pool.specs.Pool.{Pool, pages}
+use Rattle.page_pool.specs.Pool.{Pool, cells, pages}
 use Rattle.scheduler.specs.Slots.{IsSchedule}
 use Rattle.scheduler.specs.Said.{word_in}
 use Rattle.scheduler.specs.Sendings.{slots_to_come, Follows, Keeps, StandsAt}
@@ -76,7 +76,8 @@ pub record Gives (result : Option ℕ) (s : Order) (w : Pool) (s' : Order) (w' :
 abbrev pub bits_to_come : ℕ → ℕ → Order → Pool → List Bool
 bits_to_come pending word s w = bits_of pending word ++ words_bits (words_to_come s w)
 
--- the bits as a source, over a pool and a counter that were lent under these names
+-- The bits as a source, over a pool and a counter that were lent under these names. The pool is lent with each of its cells, so no call
+-- changes how many it has.
 abbrev pub air_bits : ℕ → ℕ → Order → Pool → GName → GName → Left Bool
 air_bits pending word s w pool steps = record {
   tells = true;
@@ -84,5 +85,5 @@ air_bits pending word s w pool steps = record {
   there = true;
   steady = true;
   faults = 0;
-  lent = Lent pool ∷ Lent steps ∷ [];
+  lent = Lent pool ∷ Lent steps ∷ replicate (cells w) (Lent pool);
 }

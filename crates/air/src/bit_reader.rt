@@ -18,7 +18,8 @@ use wires::steps::Steps;
 /// The bits of a word.
 const WORD_BITS: u32 = 32;
 
-/// The bits of a transmission of a pool's pages. It tells them, is always steady, and has no faults.
+/// The bits of a transmission of a pool's pages. It tells them, is always steady, and has no faults. A page leaves the pool with the
+/// last word of its run: where no bit is left, the pool has no page. It has the cells that it had before, whichever bits were taken.
 #[derive(Drop)]
 pub struct AirBits<'a, L: Ledger> {
     pool: &'a mut Pool,
@@ -30,6 +31,7 @@ pub struct AirBits<'a, L: Ledger> {
     pending: u32,
     ghost within: { pending ≤ 32 },
     ghost follows: { Follows order.sending pool.now },
+    ghost empties: { bits_to_come pending word order pool.now ≡ [] → pages pool.now ≡ [] },
 }
 
 impl<'a, L: Ledger> AirBits<'a, L> {
@@ -71,6 +73,7 @@ impl<'a, L: Ledger> AirBits<'a, L> {
         ensures same { bits_to_come self.new.pending self.new.word self.new.order self.new.pool.now ≡ bits_to_come self.old.pending self.old.word self.old.order self.old.pool.now }
         ensures begun { IsTrue result → 0 < self.new.pending }
         ensures ended { IsFalse result → bits_to_come self.old.pending self.old.word self.old.order self.old.pool.now ≡ [] }
+        ensures keeps { Keeps self.old.pool.now self.new.pool.now }
     {
         if self.pending != 0 {
             return true;

@@ -19,12 +19,13 @@ use Rattle.wires.specs.Left.{Left, Takes, Took}
 use Rattle.wires.specs.Written.{Puts, Written}
 use Rattle.wires.proofs.Left.{Took-from_take, Took-nothing, Took-then}
 use Rattle.wires.proofs.Written.{no_ok, still}
-use Rattle.station.specs.Answering.{AnsweredBroken, AnsweredInput, AnsweredToEnd, AnsweredUnprinted, Answering, AnswersOn, GainedPages}
+use Rattle.station.specs.Answering.{AnsweredInput, AnsweredToEnd, Answering, AnswersOn, GainedPages, StoppedBroken, StoppedUnprinted}
 use Rattle.station.specs.declared.answering.Course.{Course}
 use Rattle.station.specs.Answers.{answer_line, answer_lines}
 use Rattle.station.specs.Sessions.{SessionOf, StandsFor, has_end}
 use Rattle.station.specs.Wrote.{Wrote, WroteFront}
-use Rattle.station.proofs.Decisions.{Fed, answers_end, cells_gain, few_heard, no_end_on, not_end, pages_on}
+use Rattle.tap_terminal.proofs.Cells.{cells_gain}
+use Rattle.station.proofs.Decisions.{Fed, answers_end, few_heard, no_end_on, not_end, pages_on}
 use Rattle.station.proofs.Lists.{splice}
 use Rattle.station.proofs.Listens.{Wrote-nothing, Wrote-then, WroteFront-then}
 use Rattle.station.proofs.Steps.{session_stood, stands_on}
@@ -85,16 +86,21 @@ prints_on {T} {E} settings spare old now before pool pool2 desk desk2 o0 o1 o2 b
 pub unprinted : {T E : Type 0} (settings : Parts) (spare : ℕ) (old now : Left ℕ) (before pool pool2 : Pool) (desk desk2 : Desk) (o0 o1 o2 : Written ℕ) (byte : ℕ) (taken ahead piece : List ℕ)
     (a : Answer) (e : E) → piece ≡ answer_line a
     → (u : Answering settings spare old now before pool desk o0 o1 taken (byte ∷ ahead)) → Fed settings spare desk2 u.fed byte u.session a pool pool2 → Puts {T = T} o1 o2 piece (Err e)
-    → AnsweredUnprinted settings spare old now o0 o2 taken
-unprinted {T} {E} settings spare old now before pool pool2 desk desk2 o0 o1 o2 byte taken ahead piece a e p u h k = record {
-  fed = u.fed ++ byte ∷ [];
-  fed_is = record { rest = ahead; is = u.taken_is ∙ sym (splice u.fed byte ahead) };
-  session = h.longer;
-  session_is = session_stood settings spare desk2 (u.fed ++ byte ∷ []) h.longer pool2.spare (stands_on settings spare desk2 u.fed byte u.session a pool pool2 h);
-  took = u.took;
-  wrote = subst (λ (z : List ℕ). WroteFront o0 o2 z) (sym (lines_on u.session h.longer a h.answers_are))
-      (WroteFront-then {T = T} {E = E} o0 o1 o2 (answer_lines u.session.answers) (answer_line a) e u.wrote (subst (λ (z : List ℕ). Puts {T = T} o1 o2 z (Err e)) p k));
-}
+    → StoppedUnprinted settings spare old now before pool2 desk2 o0 o2 taken
+unprinted {T} {E} settings spare old now before pool pool2 desk desk2 o0 o1 o2 byte taken ahead piece a e p u h k =
+    let stood = stands_on settings spare desk2 u.fed byte u.session a pool pool2 h in
+    record {
+      unprinted = record {
+        fed = u.fed ++ byte ∷ [];
+        fed_is = record { rest = ahead; is = u.taken_is ∙ sym (splice u.fed byte ahead) };
+        session = h.longer;
+        session_is = session_stood settings spare desk2 (u.fed ++ byte ∷ []) h.longer pool2.spare stood;
+        took = u.took;
+        wrote = subst (λ (z : List ℕ). WroteFront o0 o2 z) (sym (lines_on u.session h.longer a h.answers_are))
+            (WroteFront-then {T = T} {E = E} o0 o1 o2 (answer_lines u.session.answers) (answer_line a) e u.wrote (subst (λ (z : List ℕ). Puts {T = T} o1 o2 z (Err e)) p k));
+      };
+      leaves = record { fed = u.fed ++ byte ∷ []; stands = stood; gained = gained_on settings spare before pool pool2 desk2 u.fed byte u.session a u.gained h };
+    }
 
 yes_no : (b : Bool) → b ≡ true → b ≡ false → ⊥
 yes_no true h k = cc
@@ -120,7 +126,7 @@ end_among s t a is e =
 pub ends : {T E : Type 0} (settings : Parts) (spare : ℕ) (old now : Left ℕ) (before pool pool2 : Pool) (desk desk2 : Desk) (o0 o1 o2 : Written ℕ) (byte : ℕ) (taken ahead piece : List ℕ)
     (a : Answer) (x : T) → a ≡ End → piece ≡ answer_line a
     → (u : Answering settings spare old now before pool desk o0 o1 taken (byte ∷ ahead)) → Fed settings spare desk2 u.fed byte u.session a pool pool2 → Puts {E = E} o1 o2 piece (Ok x)
-    → AnsweredToEnd settings spare old now before pool2 o0 o2 taken
+    → AnsweredToEnd settings spare old now before pool2 desk2 o0 o2 taken
 ends {T} {E} settings spare old now before pool pool2 desk desk2 o0 o1 o2 byte taken ahead piece a x is p u h k =
     let all = u.fed ++ byte ∷ [] in
     let stood = stands_on settings spare desk2 u.fed byte u.session a pool pool2 h in
@@ -132,7 +138,7 @@ ends {T} {E} settings spare old now before pool pool2 desk desk2 o0 o1 o2 byte t
           subst (λ (z : List ℕ). SessionOf settings spare z h.longer) (sym whole)
           (subst (λ (z : List ℕ). IsSession settings.password (directory_of settings) spare z h.longer) (sym (map-append char_of all (ahead ++ more))) (over (characters (ahead ++ more))));
       took = u.took;
-      gained = gained_on settings spare before pool pool2 desk2 u.fed byte u.session a u.gained h;
+      leaves = record { fed = all; stands = stood; gained = gained_on settings spare before pool pool2 desk2 u.fed byte u.session a u.gained h };
       wrote = subst (λ (z : List ℕ). Wrote o0 o2 z) (sym (lines_on u.session h.longer a h.answers_are))
           (Wrote-then {T = T} {E = E} o0 o1 o2 (answer_lines u.session.answers) (answer_line a) x u.wrote (subst (λ (z : List ℕ). Puts {E = E} o1 o2 z (Ok x)) p k));
     }
@@ -179,7 +185,7 @@ takes_more settings spare old now next before pool desk o0 o taken buffer n u t 
 
 -- nothing was left
 pub answered_all : {E : Type 0} (settings : Parts) (spare : ℕ) (old now next : Left ℕ) (before pool : Pool) (desk : Desk) (o0 o : Written ℕ) (taken buffer : List ℕ) (n : ℕ) → n ≡ 0
-    → Answering settings spare old now before pool desk o0 o taken [] → Takes {E = E} now next buffer (Ok n) → AnsweredInput settings spare old next before pool o0 o
+    → Answering settings spare old now before pool desk o0 o taken [] → Takes {E = E} now next buffer (Ok n) → AnsweredInput settings spare old next before pool desk o0 o
 answered_all {E} settings spare old now next before pool desk o0 o taken buffer n z u t =
     let more = takes_more {E = E} settings spare old now next before pool desk o0 o taken buffer n u t in
     let none : take n buffer ≡ [] = ap (λ (k : ℕ). take k buffer) z in
@@ -194,36 +200,39 @@ answered_all {E} settings spare old now next before pool desk o0 o taken buffer 
           let c = t.left (still u.took.tells told) in
           let empty : next.left ≡ [] = sym (ap (λ (y : List ℕ). y ++ next.left) none) ∙ (sym c.0 ∙ c.1.0 z) in
           subst (λ (y : List ℕ). SessionOf settings spare y u.session) (sym (took.left told ∙ (ap (λ (y : List ℕ). taken ++ y) empty ∙ append-nil taken))) all;
-      gained = u.gained;
+      leaves = record { fed = u.fed; stands = u.stands; gained = u.gained };
       wrote = u.wrote;
     }
 
 -- an End came
-pub answered_to_end : (settings : Parts) (spare : ℕ) (old now : Left ℕ) (before pool : Pool) (o0 o : Written ℕ) (taken : List ℕ)
-    → AnsweredToEnd settings spare old now before pool o0 o taken → AnsweredInput settings spare old now before pool o0 o
-answered_to_end settings spare old now before pool o0 o taken h = record {
+pub answered_to_end : (settings : Parts) (spare : ℕ) (old now : Left ℕ) (before pool : Pool) (desk : Desk) (o0 o : Written ℕ) (taken : List ℕ)
+    → AnsweredToEnd settings spare old now before pool desk o0 o taken → AnsweredInput settings spare old now before pool desk o0 o
+answered_to_end settings spare old now before pool desk o0 o taken h = record {
   taken = taken;
   took = h.took;
   session = h.session;
   session_is = subst (λ (z : List ℕ). SessionOf settings spare z h.session) (append-nil taken) (h.session_is []);
   of_all = λ told. subst (λ (z : List ℕ). SessionOf settings spare z h.session) (sym (h.took.left told)) (h.session_is now.left);
-  gained = h.gained;
+  leaves = h.leaves;
   wrote = h.wrote;
 }
 
 -- a read failed
 pub answered_broken : {E : Type 0} (settings : Parts) (spare : ℕ) (old now next : Left ℕ) (before pool : Pool) (desk : Desk) (o0 o : Written ℕ) (taken buffer : List ℕ) (e : E)
-    → Answering settings spare old now before pool desk o0 o taken [] → Takes now next buffer (Err e) → AnsweredBroken settings spare old next o0 o
+    → Answering settings spare old now before pool desk o0 o taken [] → Takes now next buffer (Err e) → StoppedBroken settings spare old next before pool desk o0 o
 answered_broken {E} settings spare old now next before pool desk o0 o taken buffer e u t = record {
-  taken = taken;
-  tells = t.tells ∙ u.took.tells;
-  left = λ told. u.took.left told ∙ ap (λ (z : List ℕ). taken ++ z) (sym (t.left (still u.took.tells told)));
-  unsteady = λ told s. no_ok ℕ E e (t.steady (still u.took.tells told) (u.took.steady told s)).0;
-  faults = subst (λ (k : ℕ). Rose k next.faults) u.took.faults t.faults.failed;
-  lent = t.lent ∙ u.took.lent;
-  session = u.session;
-  session_is = session_now settings spare old now before pool desk o0 o taken u;
-  wrote = u.wrote;
+  broken = record {
+    taken = taken;
+    tells = t.tells ∙ u.took.tells;
+    left = λ told. u.took.left told ∙ ap (λ (z : List ℕ). taken ++ z) (sym (t.left (still u.took.tells told)));
+    unsteady = λ told s. no_ok ℕ E e (t.steady (still u.took.tells told) (u.took.steady told s)).0;
+    faults = subst (λ (k : ℕ). Rose k next.faults) u.took.faults t.faults.failed;
+    lent = t.lent ∙ u.took.lent;
+    session = u.session;
+    session_is = session_now settings spare old now before pool desk o0 o taken u;
+    wrote = u.wrote;
+  };
+  leaves = record { fed = u.fed; stands = u.stands; gained = u.gained };
 }
 
 -- a session under way has few characters
@@ -234,9 +243,9 @@ few_taken settings spare old now before pool desk o0 o taken u =
 
 -- what holds by the course that was answered, under settings that stay
 pub course_ends : (settings then : Parts) (spare : ℕ) (old now : Left ℕ) (before pool : Pool) (desk : Desk) (o0 o : Written ℕ) (taken ahead : List ℕ) (r : Course)
-    → r ≡ Course.Ended → then ≡ settings → AnswersOn {E = Failed} then spare old now before pool desk o0 o taken ahead (Ok r) → AnsweredToEnd settings spare old now before pool o0 o taken
+    → r ≡ Course.Ended → then ≡ settings → AnswersOn {E = Failed} then spare old now before pool desk o0 o taken ahead (Ok r) → AnsweredToEnd settings spare old now before pool desk o0 o taken
 course_ends settings then spare old now before pool desk o0 o taken ahead r e s h =
-    subst (λ (p : Parts). AnsweredToEnd p spare old now before pool o0 o taken) s
+    subst (λ (p : Parts). AnsweredToEnd p spare old now before pool desk o0 o taken) s
     (subst (λ (z : Course). AnswersOn {E = Failed} then spare old now before pool desk o0 o taken ahead (Ok z)) e h)
 
 pub course_goes : (settings then : Parts) (spare : ℕ) (old now : Left ℕ) (before pool : Pool) (desk : Desk) (o0 o : Written ℕ) (taken ahead : List ℕ) (r : Course)

@@ -5,9 +5,7 @@ use Rattle.std.proofs.lemmas.Grind.{flat_map-append}
 use Rattle.std.proofs.lemmas.List.{length-map, map-append}
 use Rattle.std.proofs.lemmas.List.Folds.{list_any-append}
 use Rattle.std.specs.Option.{option_to_list}
-use Rattle.page_pool.proofs.Lists.{in_use-append}
-use Rattle.page_pool.specs.Cells.{cells_of}
-use Rattle.page_pool.specs.Pool.{Live, Pool, cells, in_use, pages}
+use Rattle.page_pool.specs.Pool.{Live, Pool, pages}
 use Rattle.page_text.specs.Page.{Page}
 use Rattle.subscribers.specs.Parts.{Parts}
 use Rattle.tap_block.specs.Chars.{char_of, characters}
@@ -82,14 +80,6 @@ pages_gain old new None h = ap pages h ∙ sym (append-nil (pages old))
 pages_gain old new (Some page) h =
     ap (λ (es : List Live). map (λ (e : Live). e.page) es) h.at_end
     ∙ (map-append (λ (e : Live). e.page) old.live (h.entry ∷ []) ∙ ap (λ (p : Page). pages old ++ p ∷ []) h.is)
-
--- and its cells
-pub cells_gain : (old new : Pool) (gained : Option Page) → Gains old new gained → cells new ≡ cells old
-cells_gain old new None h = ap cells h
-cells_gain old new (Some page) h =
-    let one : in_use new.live ≡ in_use old.live + cells_of h.entry.page = (let e = in_use-append old.live (h.entry ∷ []) in omega (arith, e, ap in_use h.at_end)) in
-    let two : cells_of h.entry.page ≡ cells_of page = ap cells_of h.is in
-    omega (arith, one, two, h.spare)
 
 -- the pages since the beginning
 pub pages_on : (settings : Parts) (spare : ℕ) (before pool pool2 : Pool) (desk : Desk) (bytes : List ℕ) (byte : ℕ) (session : Session) (a : Answer) → pages pool ≡ pages before ++ session.pages

@@ -22,6 +22,7 @@ pub mod HeardFiles
 pub mod GroupsHeard
 pub mod Answered
 pub mod NoisyHeard
+pub mod LeftBits
 pub mod FewBits
 pub mod Trials
 pub mod Connections

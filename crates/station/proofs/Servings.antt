@@ -16,6 +16,7 @@ use Rattle.wires.specs.Stacked.{are_bytes}
 use Rattle.wires.specs.Written.{AppendsFront, Puts, Written}
 use Rattle.station.specs.declared.session.SessionEnd.{SessionEnd}
 use Rattle.station.specs.Hall.{Hall}
+use Rattle.station.specs.Leaves.{desk_after}
 use Rattle.station.specs.ReportLine.{longest_line, report_line}
 use Rattle.station.specs.Served.{FileAfter, FitOut, FitShelf, Served, airs, line_for, lines}
 use Rattle.station.specs.Serving.{Around, AtAppendFault, AtDone, AtFreshFault, AtOutFault, AtWireFault, SendsTo, SoFar}
@@ -39,7 +40,7 @@ made settings spare mid after empty pool pool2 desk end f f2 name r none ran clo
   is_air = subst (λ (p : List Page). IsAir p sends.bits) (ran.pages_are ∙ ap (λ (es : List Live). pages (record { live = es; spare = 0; region = [] }) ++ ran.session.pages) none) sends.is_air;
 }
 
-same_then : (a b c : Files) (n : List ℕ) → SameAt a b n → SameAt b c n → SameAt a c n
+pub same_then : (a b c : Files) (n : List ℕ) → SameAt a b n → SameAt b c n → SameAt a c n
 same_then a b c n h k = record { there = k.there ∙ h.there; file = k.file ∙ h.file; fresh = k.fresh ∙ h.fresh; room = k.room ∙ h.room }
 
 -- how much was written where a write failed
@@ -70,7 +71,7 @@ pub opened_so : {E : Type 0} (was mid : Line) (b v : Bool) → b ≡ v → Opens
 opened_so {E} was mid b v e h = subst (λ (x : Bool). Opens {E = E} was mid (Ok x)) e h
 
 -- `next` found no further connection
-pub at_done : {E : Type 0} (settings : Parts) (spare most : ℕ) (first : Around) (w mid : Line) (f : Files) (o : Written ℕ) (address name : List ℕ) (pool : Pool) (ss : List (Served settings spare))
+abbrev pub at_done : {E : Type 0} (settings : Parts) (spare most : ℕ) (first : Around) (w mid : Line) (f : Files) (o : Written ℕ) (address name : List ℕ) (pool : Pool) (ss : List (Served settings spare))
     → SoFar first (record { wire = w; shelf = f; out = o }) address name most pool ss → length ss ≤ most → Opens {E = E} w mid (Ok false) → AtDone settings spare first (record { wire = mid; shelf = f; out = o }) address name most
 at_done settings spare most first w mid f o address name pool ss so few h = record {
   sessions = ss;
@@ -96,7 +97,7 @@ at_done settings spare most first w mid f o address name pool ss so few h = reco
 }
 
 -- `next` failed
-pub at_wire_fault : {E : Type 0} (settings : Parts) (spare most : ℕ) (first : Around) (w mid : Line) (f : Files) (o : Written ℕ) (address name : List ℕ) (pool : Pool) (e : E) (ss : List (Served settings spare))
+abbrev pub at_wire_fault : {E : Type 0} (settings : Parts) (spare most : ℕ) (first : Around) (w mid : Line) (f : Files) (o : Written ℕ) (address name : List ℕ) (pool : Pool) (e : E) (ss : List (Served settings spare))
     → SoFar first (record { wire = w; shelf = f; out = o }) address name most pool ss → length ss ≤ most → Opens w mid (Err e) → AtWireFault settings spare first (record { wire = mid; shelf = f; out = o }) address name most
 at_wire_fault {E} settings spare most first w mid f o address name pool e ss so few h = record {
   sessions = ss;
@@ -114,7 +115,7 @@ at_wire_fault {E} settings spare most first w mid f o address name pool e ss so 
 }
 
 -- over a fit shelf the append is proper
-append_fits : {T E F : Type 0} (settings : Parts) (spare most : ℕ) (first : Around) (w : Line) (f f2 : Files) (o : Written ℕ) (address name : List ℕ) (pool pool1 pool2 : Pool) (r : Result T E) (ss : List (Served settings spare)) (s : Served settings spare)
+pub append_fits : {T E F : Type 0} (settings : Parts) (spare most : ℕ) (first : Around) (w : Line) (f f2 : Files) (o : Written ℕ) (address name : List ℕ) (pool pool1 pool2 : Pool) (r : Result T E) (ss : List (Served settings spare)) (s : Served settings spare)
     → SoFar first (record { wire = w; shelf = f; out = o }) address name most pool ss → length ss + 1 ≤ most → Opens {E = F} w s.before (Ok true) → (sends : SendsTo pool1 pool2 f f2 name r) → s.bits ≡ sends.bits
     → FitShelf settings spare first.wire first.shelf name most → length sends.bits ≤ 8 * f.room name
 append_fits settings spare most first w f f2 o address name pool pool1 pool2 r ss s so few h sends same fit =
@@ -124,7 +125,7 @@ append_fits settings spare most first w f f2 o address name pool pool1 pool2 r s
     omega (arith, total, split, room)
 
 -- the append failed
-pub at_append_fault : {T E F : Type 0} (settings : Parts) (spare most : ℕ) (first : Around) (w mid after : Line) (f f2 : Files) (o : Written ℕ) (address name : List ℕ) (empty pool pool2 : Pool) (desk : Desk) (end : SessionEnd) (e : E) (ss : List (Served settings spare))
+abbrev pub at_append_fault : {T E F : Type 0} (settings : Parts) (spare most : ℕ) (first : Around) (w mid after : Line) (f f2 : Files) (o : Written ℕ) (address name : List ℕ) (empty pool pool2 : Pool) (desk : Desk) (end : SessionEnd) (e : E) (ss : List (Served settings spare))
     → SoFar first (record { wire = w; shelf = f; out = o }) address name most empty ss → length ss + 1 ≤ most → Opens {E = F} w mid (Ok true) → Ran settings spare mid after empty pool desk end → Closes settings spare mid after
     → SendsTo {T = T} pool pool2 f f2 name (Err e) → AtAppendFault settings spare first (record { wire = after; shelf = f2; out = o }) address name most
 at_append_fault {T} {E} settings spare most first w mid after f f2 o address name empty pool pool2 desk end e ss so few h ran closes sends =
@@ -163,7 +164,7 @@ at_append_fault {T} {E} settings spare most first w mid after f f2 o address nam
     }
 
 -- the transmission was appended
-file_more : {T E : Type 0} (settings : Parts) (spare : ℕ) (f0 f f2 : Files) (name : List ℕ) (pool pool2 : Pool) (x : T) (ss : List (Served settings spare)) (s : Served settings spare) → FileAfter f0 f name (airs ss)
+pub file_more : {T E : Type 0} (settings : Parts) (spare : ℕ) (f0 f f2 : Files) (name : List ℕ) (pool pool2 : Pool) (x : T) (ss : List (Served settings spare)) (s : Served settings spare) → FileAfter f0 f name (airs ss)
     → (sends : SendsTo {E = E} pool pool2 f f2 name (Ok x)) → s.bits ≡ sends.bits → FileAfter f0 f2 name (airs (ss ++ s ∷ []))
 file_more settings spare f0 f f2 name pool pool2 x ss s h sends a =
     let all : IsTrue f0.tells → bytes_bits (f2.file name) ≡ airs (ss ++ s ∷ []) =
@@ -183,14 +184,14 @@ file_more settings spare f0 f f2 name pool pool2 x ss s h sends a =
     }
 
 -- over a fit output the line is proper
-line_fits : (settings : Parts) (spare most : ℕ) (first : Around) (w : Line) (f : Files) (o : Written ℕ) (address name : List ℕ) (pool : Pool) (ss : List (Served settings spare)) (line : List ℕ)
+pub line_fits : (settings : Parts) (spare most : ℕ) (first : Around) (w : Line) (f : Files) (o : Written ℕ) (address name : List ℕ) (pool : Pool) (ss : List (Served settings spare)) (line : List ℕ)
     → SoFar first (record { wire = w; shelf = f; out = o }) address name most pool ss → length ss + 1 ≤ most → length line ≤ longest_line → FitOut first.out most → length line ≤ o.room
 line_fits settings spare most first w f o address name pool ss line so few short fit =
     let room : o.room + length (lines 1 ss) ≡ first.out.room = so.out.room fit.tells in
     omega (arith, room, so.short, few, short, fit.fits)
 
 -- putting the line failed
-pub at_out_fault : {T U E F G : Type 0} (settings : Parts) (spare most : ℕ) (first : Around) (w mid after : Line) (f f2 : Files) (o o2 : Written ℕ) (address name : List ℕ) (empty pool pool2 : Pool) (desk : Desk) (end : SessionEnd) (report : Report) (number : ℕ) (x : T) (e : E) (ss : List (Served settings spare))
+abbrev pub at_out_fault : {T U E F G : Type 0} (settings : Parts) (spare most : ℕ) (first : Around) (w mid after : Line) (f f2 : Files) (o o2 : Written ℕ) (address name : List ℕ) (empty pool pool2 : Pool) (desk : Desk) (end : SessionEnd) (report : Report) (number : ℕ) (x : T) (e : E) (ss : List (Served settings spare))
     → SoFar first (record { wire = w; shelf = f; out = o }) address name most empty ss → length ss + 1 ≡ number → number ≤ most → Opens {E = F} w mid (Ok true) → (ran : Ran settings spare mid after empty pool desk end) → Closes settings spare mid after
     → SendsTo {E = G} pool pool2 f f2 name (Ok x) → report ≡ ran.session.report → length (report_line number end report) ≤ longest_line → Puts {T = U} o o2 (report_line number end report) (Err e)
     → AtOutFault settings spare first (record { wire = after; shelf = f2; out = o2 }) address name most
@@ -231,12 +232,18 @@ at_out_fault {T} {U} {E} settings spare most first w mid after f f2 o o2 address
 pub all_spare : (pool : Pool) → pool.live ≡ [] → cells pool ≡ pool.spare
 all_spare pool none = let e : in_use pool.live ≡ 0 = ap in_use none in omega (arith, e)
 
+-- the terminal after one session more
+pub last_desk : {settings : Parts} {spare : ℕ} (first : Desk) (ss : List (Served settings spare)) (s : Served settings spare) → desk_after first (ss ++ s ∷ []) ≡ s.desk
+last_desk first [] s = refl
+last_desk first (x ∷ ss) s = last_desk x.desk ss s
+
 -- one session more was served, sent and reported
-pub one_more : {T U E F G : Type 0} (settings : Parts) (spare most : ℕ) (first : Around) (w mid after : Line) (f f2 : Files) (o o2 : Written ℕ) (address name : List ℕ) (empty pool pool2 : Pool) (desk : Desk) (end : SessionEnd) (report : Report) (number : ℕ) (x : T) (y : U) (ss : List (Served settings spare))
+pub one_more : {T U E F G : Type 0} (settings : Parts) (spare most : ℕ) (first : Around) (w mid after : Line) (f f2 : Files) (o o2 : Written ℕ) (address name : List ℕ) (empty pool pool2 : Pool) (desk : Desk) (end : SessionEnd) (report : Report) (number : ℕ) (x : T) (y : U) (begun : Desk) (ss : List (Served settings spare))
     → SoFar first (record { wire = w; shelf = f; out = o }) address name most empty ss → length ss + 1 ≡ number → number ≤ most → Opens {E = F} w mid (Ok true) → (ran : Ran settings spare mid after empty pool desk end) → Closes settings spare mid after
     → SendsTo {E = G} pool pool2 f f2 name (Ok x) → report ≡ ran.session.report → length (report_line number end report) ≤ longest_line → Puts {E = E} o o2 (report_line number end report) (Ok y)
-    → (sessions : List (Served settings spare)) × SoFar first (record { wire = after; shelf = f2; out = o2 }) address name most pool2 sessions × (length sessions ≡ number)
-one_more settings spare most first w mid after f f2 o o2 address name empty pool pool2 desk end report number x y ss so num few h ran closes sends same short puts =
+    → (sessions : List (Served settings spare)) × SoFar first (record { wire = after; shelf = f2; out = o2 }) address name most pool2 sessions × (desk ≡ desk_after begun sessions)
+    × (length sessions ≡ number)
+one_more settings spare most first w mid after f f2 o o2 address name empty pool pool2 desk end report number x y begun ss so num few h ran closes sends same short puts =
     let s = made settings spare mid after empty pool pool2 desk end f f2 name (Ok x) so.no_page ran closes sends in
     let told : IsTrue first.out.tells → IsTrue o.tells = λ t. still so.out.tells t in
     let line : report_line number end report ≡ line_for (1 + length ss) s =
@@ -265,11 +272,12 @@ one_more settings spare most first w mid after f f2 o o2 address name empty pool
         no_page = sends.emptied;
         all_spare = sym (all_spare pool2 sends.emptied) ∙ (sends.cells_stay ∙ (ran.cells_stay ∙ (all_spare empty so.no_page ∙ so.all_spare)));
       },
+      sym (last_desk begun ss s),
       omega (arith, num, length-append ss (s ∷ [])),
     )
 
 -- the file was made fresh
-file_begins : {T E : Type 0} (f0 f : Files) (name : List ℕ) (x : T) → Freshens {E = E} f0 f name (Ok x) → FileAfter f0 f name []
+pub file_begins : {T E : Type 0} (f0 f : Files) (name : List ℕ) (x : T) → Freshens {E = E} f0 f name (Ok x) → FileAfter f0 f name []
 file_begins f0 f name x fr = record {
   tells = fr.touches.tells;
   there = λ t. (fr.ok t).1;
@@ -285,7 +293,7 @@ file_begins f0 f name x fr = record {
 }
 
 -- `fresh` failed
-pub at_fresh : {T E : Type 0} (settings : Parts) (spare most : ℕ) (w0 : Line) (f0 f : Files) (o : Written ℕ) (name : List ℕ) (e : E) → Freshens {T = T} f0 f name (Err e)
+abbrev pub at_fresh : {T E : Type 0} (settings : Parts) (spare most : ℕ) (w0 : Line) (f0 f : Files) (o : Written ℕ) (name : List ℕ) (e : E) → Freshens {T = T} f0 f name (Err e)
     → AtFreshFault settings spare (record { wire = w0; shelf = f0; out = o }) (record { wire = w0; shelf = f; out = o }) name most
 at_fresh {T} {E} settings spare most w0 f0 f o name e fr = record {
   wire = refl;
@@ -301,7 +309,7 @@ at_fresh {T} {E} settings spare most w0 f0 f o name e fr = record {
 }
 
 -- `listen` failed
-pub at_listen : {T E F : Type 0} (settings : Parts) (spare most : ℕ) (w0 w : Line) (f0 f : Files) (o : Written ℕ) (address name : List ℕ) (x : T) (e : F) → Freshens {E = E} f0 f name (Ok x) → Listens {T = T} w0 w address (Err e)
+abbrev pub at_listen : {T E F : Type 0} (settings : Parts) (spare most : ℕ) (w0 w : Line) (f0 f : Files) (o : Written ℕ) (address name : List ℕ) (x : T) (e : F) → Freshens {E = E} f0 f name (Ok x) → Listens {T = T} w0 w address (Err e)
     → AtWireFault settings spare (record { wire = w0; shelf = f0; out = o }) (record { wire = w; shelf = f; out = o }) address name most
 at_listen {T} {E} {F} settings spare most w0 w f0 f o address name x e fr h = record {
   sessions = [];
@@ -338,7 +346,7 @@ begun settings spare most w0 w f0 f o address name pool x y fr h none all = reco
 }
 
 -- as many connections as were wanted were served
-pub all_served : (settings : Parts) (spare most : ℕ) (first now : Around) (address name : List ℕ) (pool : Pool) (ss : List (Served settings spare)) → SoFar first now address name most pool ss → length ss ≡ most → AtDone settings spare first now address name most
+abbrev pub all_served : (settings : Parts) (spare most : ℕ) (first now : Around) (address name : List ℕ) (pool : Pool) (ss : List (Served settings spare)) → SoFar first now address name most pool ss → length ss ≡ most → AtDone settings spare first now address name most
 all_served settings spare most first now address name pool ss so n = record {
   sessions = ss;
   few = omega (arith, n);

@@ -1,7 +1,6 @@
 -- The commands `station` and `trial`, from their parts.
-use Rattle.std.proofs.Common.{◌≡◌, inl, inr, ℕ, Bool, List, [], ◌∷◌, drop, refl, ◌∙◌, ap, subst, arith}
+use Rattle.std.proofs.Common.{◌≡◌, inl, inr, ℕ, Bool, List, [], ◌∷◌, drop, refl, ◌∙◌, ap, subst}
 use Rattle.std.specs.Borrow.{GName}
-use Rattle.page_pool.specs.Pool.{Pool, cells, in_use}
 use Rattle.subscribers.specs.Parts.{Parts}
 use Rattle.wires.proofs.Written.{and_both}
 use Rattle.wires.specs.Files.{Files, all_files}
@@ -17,10 +16,6 @@ use Rattle.station.specs.ReadFile.{ReadSettings}
 use Rattle.station.specs.Serving.{Around, HasServed}
 use Rattle.station.specs.StationRows.{AreFileBits, ServedBy, StationRow, TrialRow, TriedBy, TriesFile, with_shelf}
 use Rattle.station.specs.Trying.{Tries}
-
--- a pool without pages has as many cells as are spare
-pub cells_spare : (w : Pool) (n : ℕ) → w.live ≡ [] → w.spare ≡ n → cells w ≡ n
-cells_spare w n none spare = let used : in_use w.live ≡ 0 = ap in_use none in omega (arith, used, spare)
 
 -- connections were served by settings
 served_by : (address settings air : List ℕ) (count : ℕ) (old new : Around) (parts s : Parts) (shelf : Files) (n : ℕ) (status : Status) → s ≡ parts → n ≡ parts.cells

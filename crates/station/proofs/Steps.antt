@@ -16,7 +16,8 @@ use Rattle.wires.specs.Line.{Hears, Line, Says, last}
 use Rattle.station.specs.Sessions.{Fits, IsTurn, SessionOf, StandsFor, UnderWay}
 use Rattle.station.specs.Talk.{Calm, IsFront, Talked, here}
 use Rattle.tap_block.proofs.Characters.{characters_on}
-use Rattle.station.proofs.Decisions.{Fed, cells_gain, fits_front, no_end_on, not_end, pages_on, replies_on}
+use Rattle.tap_terminal.proofs.Cells.{cells_gain}
+use Rattle.station.proofs.Decisions.{Fed, fits_front, no_end_on, not_end, pages_on, replies_on}
 use Rattle.station.proofs.Lists.{all-append, all-map, front_append, front_same, front_then, splice}
 use Rattle.station.proofs.Talks.{calm_hears, calm_nothing, calm_says, talked_hears, talked_nothing, talked_says}
 

@@ -15,7 +15,8 @@ use Rattle.station.specs.declared.session.SessionEnd.{SessionEnd}
 use Rattle.station.specs.declared.session.SessionEnd.TheVariants.{HungUp, LineLost}
 use Rattle.station.specs.Sessions.{Fits, GoesOn, IsAnsweredLast, Ran, Stop, Stops, UnderWay, deaf as is_deaf, decided, mute as is_mute, silent as is_silent, told as is_told}
 use Rattle.station.specs.Talk.{Grew, here}
-use Rattle.station.proofs.Decisions.{Fed, cells_gain, few_heard, fits_front, not_end, pages_on, replies_on, spoken}
+use Rattle.tap_terminal.proofs.Cells.{cells_gain}
+use Rattle.station.proofs.Decisions.{Fed, few_heard, fits_front, not_end, pages_on, replies_on, spoken}
 use Rattle.station.proofs.Lists.{front_append, front_same}
 use Rattle.station.proofs.Steps.{all_fed, fits_now, heard_rest, session_stood, stands_on, turns_on}
 use Rattle.station.proofs.Talks.{calm_hears, calm_says, no_cut, no_deaf, talked_cut, talked_deaf, talked_says, talked_silent}

@@ -7,6 +7,8 @@ use Rattle.page_pool.specs.Pool.{Live, Pool, pages}
 use Rattle.scheduler.proofs.Schedules.{one_schedule}
 use Rattle.air.specs.Air.{IsAir, transmission}
 use Rattle.subscribers.specs.Parts.{Parts}
+use Rattle.tap_terminal.specs.Desk.{Desk}
+use Rattle.tap_terminal.specs.Session.{Session}
 use Rattle.wires.specs.declared.Failed.{Failed}
 use Rattle.wires.specs.Left.{Left}
 use Rattle.wires.specs.Stacked.{noisy_bits}
@@ -17,8 +19,9 @@ use Rattle.wires.proofs.Left.{Took-nothing}
 use Rattle.wires.proofs.Written.{still}
 use Rattle.station.specs.declared.statuses.Status.{Status}
 use Rattle.station.specs.declared.statuses.Status.TheVariants.{BadPages, BadSum, BadText, Done, FileFault, InputFault, LogonRefused, Memory, NotBlock, OutFault, Settings, SomeUnsent, TooLong, Usage, WireFault}
-use Rattle.station.specs.Answering.{AnsweredInput}
+use Rattle.station.specs.Answering.{AnsweredInput, LeavesSession}
 use Rattle.station.specs.Answers.{answer_lines}
+use Rattle.station.specs.Leaves.{HasTried, HearingLeaves, LeavesAccepted, WasLast}
 use Rattle.station.specs.Noise.{ListensThrough}
 use Rattle.station.specs.Trying.{HearsPages, TriedFront, TriedSession, Tries}
 use Rattle.station.specs.Wrote.{Wrote, WroteFront}
@@ -70,26 +73,38 @@ front_more a b c p q h k = record {
   lent = k.lent ∙ h.lent;
 }
 
-abbrev tried : (settings : Parts) (spare : ℕ) (i0 i : Left ℕ) (before after : Pool) (o0 o1 : Written ℕ) (air : List Bool) → (h : AnsweredInput settings spare i0 i before after o0 o1) → pages before ≡ []
+abbrev tried : (settings : Parts) (spare : ℕ) (i0 i : Left ℕ) (before after : Pool) (desk : Desk) (o0 o1 : Written ℕ) (air : List Bool) → (h : AnsweredInput settings spare i0 i before after desk o0 o1) → pages before ≡ []
     → IsAir (pages after) air → TriedSession settings spare i0 i
-tried settings spare i0 i before after o0 o1 air h none is = record {
+tried settings spare i0 i before after desk o0 o1 air h none is = record {
   taken = h.taken;
   took = h.took;
   session = h.session;
   session_is = h.session_is;
   of_all = h.of_all;
   air = air;
-  is_air = subst (λ (p : List Page). IsAir p air) (h.gained.pages_are ∙ ap (λ (p : List Page). p ++ h.session.pages) none) is;
+  is_air = subst (λ (p : List Page). IsAir p air) (h.leaves.gained.pages_are ∙ ap (λ (p : List Page). p ++ h.session.pages) none) is;
+}
+
+-- the session that was answered was the terminal's last one
+pub was_last : (settings : Parts) (spare : ℕ) (session : Session) (before after : Pool) (desk : Desk) → LeavesSession settings spare session before after desk → WasLast settings spare session desk
+was_last settings spare session before after desk h = record { fed = h.fed; left = after.spare; stands = h.stands }
+
+-- a session that wasn't transmitted leaves its pages
+pub leaves_accepted : (settings : Parts) (spare : ℕ) (session : Session) (before after : Pool) (desk : Desk) → pages before ≡ [] → LeavesSession settings spare session before after desk
+    → LeavesAccepted settings spare session after desk
+leaves_accepted settings spare session before after desk none h = record {
+  accepted = h.gained.pages_are ∙ ap (λ (p : List Page). p ++ session.pages) none;
+  last = was_last settings spare session before after desk h;
 }
 
 -- the line between couldn't be printed
-pub tries_between : (settings : Parts) (spare : ℕ) (printed : List Bool → List ℕ) (i0 i : Left ℕ) (before after : Pool) (n : Left Bool) (o0 o1 o2 : Written ℕ) (piece : List ℕ) (e : Failed)
-    → printed [] ≡ [] → piece ≡ codes "---\n" → AnsweredInput settings spare i0 i before after o0 o1 → pages before ≡ [] → Puts {T = Unit {0}} o1 o2 piece (Err e)
+abbrev pub tries_between : (settings : Parts) (spare : ℕ) (printed : List Bool → List ℕ) (i0 i : Left ℕ) (before after : Pool) (desk : Desk) (n : Left Bool) (o0 o1 o2 : Written ℕ) (piece : List ℕ) (e : Failed)
+    → printed [] ≡ [] → piece ≡ codes "---\n" → AnsweredInput settings spare i0 i before after desk o0 o1 → pages before ≡ [] → Puts {T = Unit {0}} o1 o2 piece (Err e)
     → TriedFront settings spare printed i0 i n n o0 o2
-tries_between settings spare printed i0 i before after n o0 o1 o2 piece e silent is h none k =
+tries_between settings spare printed i0 i before after desk n o0 o1 o2 piece e silent is h none k =
     let a = air_of (pages after) in
     record {
-      tried = tried settings spare i0 i before after o0 o1 a.0 h none a.1;
+      tried = tried settings spare i0 i before after desk o0 o1 a.0 h none a.1;
       heard = [];
       rest = a.0;
       air_is = refl;
@@ -107,17 +122,20 @@ tries_between settings spare printed i0 i before after n o0 o1 o2 piece e silent
     }
 
 -- the line between was printed, and then what was heard
-pub tries_heard : (settings : Parts) (spare : ℕ) (printed : List Bool → List ℕ) (i0 i : Left ℕ) (before after : Pool) (n0 n : Left Bool) (o0 o1 o2 o3 : Written ℕ) (piece : List ℕ) (x : Unit {0})
-    (status : Status) → piece ≡ codes "---\n" → AnsweredInput settings spare i0 i before after o0 o1 → pages before ≡ [] → Puts {E = Failed} o1 o2 piece (Ok x)
-    → HearsPages (pages after) printed n0 n o2 o3 status → Tries settings spare printed i0 i n0 n o0 o3 status
-tries_heard settings spare printed i0 i before after n0 n o0 o1 o2 o3 piece x status is h none k q = by_status status q.heard
+pub tries_heard : (settings : Parts) (spare : ℕ) (printed : List Bool → List ℕ) (i0 i : Left ℕ) (before after new : Pool) (desk : Desk) (n0 n : Left Bool) (o0 o1 o2 o3 : Written ℕ) (piece : List ℕ) (x : Unit {0})
+    (status : Status) → piece ≡ codes "---\n" → AnsweredInput settings spare i0 i before after desk o0 o1 → pages before ≡ [] → Puts {E = Failed} o1 o2 piece (Ok x)
+    → HearsPages (pages after) printed n0 n o2 o3 status → HearingLeaves after new status → HasTried settings spare printed i0 i n0 n o0 o3 new desk status
+tries_heard settings spare printed i0 i before after new desk n0 n o0 o1 o2 o3 piece x status is h none k q leaves = by_status status q.heard leaves
   where
     between : Wrote o0 o2 (answer_lines h.session.answers ++ codes "---\n")
     between = subst (λ (z : List ℕ). Wrote o0 o2 (answer_lines h.session.answers ++ z)) is (Wrote-then {E = Failed} o0 o1 o2 (answer_lines h.session.answers) piece x h.wrote k)
 
-    by_status : (s : Status) → ListensThrough printed q.air n0 n o2 o3 s → Tries settings spare printed i0 i n0 n o0 o3 s
-    by_status Done p = record {
-      tried = tried settings spare i0 i before after o0 o1 q.air h none q.is_air;
+    last : WasLast settings spare h.session desk
+    last = was_last settings spare h.session before after desk h.leaves
+
+    by_status : (s : Status) → ListensThrough printed q.air n0 n o2 o3 s → HearingLeaves after new s → HasTried settings spare printed i0 i n0 n o0 o3 new desk s
+    by_status Done p l = record { leaves = record { no_page = l.all refl; last = last }; tries = record {
+      tried = tried settings spare i0 i before after desk o0 o1 q.air h none q.is_air;
       flips = p.noise;
       took_flips = p.took;
       of_noise = p.of_all;
@@ -126,9 +144,9 @@ tries_heard settings spare printed i0 i before after n0 n o0 o1 o2 o3 piece x st
       few = p.few;
       fewer = p.fewer;
       untouched = p.untouched;
-    }
-    by_status FileFault p = record {
-      tried = tried settings spare i0 i before after o0 o1 q.air h none q.is_air;
+    } }
+    by_status FileFault p l = record { leaves = last; tries = record {
+      tried = tried settings spare i0 i before after desk o0 o1 q.air h none q.is_air;
       heard = p.heard;
       rest = p.rest;
       air_is = p.bits_are;
@@ -139,9 +157,9 @@ tries_heard settings spare printed i0 i before after n0 n o0 o1 o2 o3 piece x st
       wrote = wrote_more o0 o2 o3 (answer_lines h.session.answers ++ codes "---\n") (printed (noisy_bits p.heard p.noise)) between p.wrote;
       as_many = p.as_many;
       more = p.more;
-    }
-    by_status OutFault p = inr (record {
-      tried = tried settings spare i0 i before after o0 o1 q.air h none q.is_air;
+    } }
+    by_status OutFault p l = record { leaves = last; tries = inr (record {
+      tried = tried settings spare i0 i before after desk o0 o1 q.air h none q.is_air;
       heard = p.heard;
       rest = p.rest;
       air_is = p.bits_are;
@@ -153,19 +171,19 @@ tries_heard settings spare printed i0 i before after n0 n o0 o1 o2 o3 piece x st
       few = p.few;
       fewer = p.fewer;
       untouched = λ none. absurd (omega (arith, p.some, ap length none));
-    })
-    by_status Usage p = elim p [ ]
-    by_status Settings p = elim p [ ]
-    by_status WireFault p = elim p [ ]
-    by_status InputFault p = elim p [ ]
-    by_status NotBlock p = elim p [ ]
-    by_status BadSum p = elim p [ ]
-    by_status BadText p = elim p [ ]
-    by_status TooLong p = elim p [ ]
-    by_status LogonRefused p = elim p [ ]
-    by_status SomeUnsent p = elim p [ ]
-    by_status Memory p = elim p [ ]
-    by_status BadPages p = elim p [ ]
+    }) }
+    by_status Usage p l = elim p [ ]
+    by_status Settings p l = elim p [ ]
+    by_status WireFault p l = elim p [ ]
+    by_status InputFault p l = elim p [ ]
+    by_status NotBlock p l = elim p [ ]
+    by_status BadSum p l = elim p [ ]
+    by_status BadText p l = elim p [ ]
+    by_status TooLong p l = elim p [ ]
+    by_status LogonRefused p l = elim p [ ]
+    by_status SomeUnsent p l = elim p [ ]
+    by_status Memory p l = elim p [ ]
+    by_status BadPages p l = elim p [ ]
 
 pub live_none : (w : Pool) → w.live ≡ [] → pages w ≡ []
 live_none w e = ap (λ (es : List Live). map (λ (l : Live). l.page) es) e

@@ -32,12 +32,19 @@ pub record Answering (settings : Parts) (spare : ℕ) (old now : Left ℕ) (befo
   pub gained : GainedPages session before pool
   pub wrote : Wrote out0 out (answer_lines session.answers)
 
+-- What a session leaves: the terminal stands for the bytes that were fed, so that its report is the session's, and the pool gained the
+-- session's pages.
+pub record LeavesSession (settings : Parts) (spare : ℕ) (session : Session) (before pool : Pool) (desk : Desk) : Type 0 where
+  pub fed : List ℕ
+  pub stands : StandsFor settings spare desk fed session pool.spare
+  pub gained : GainedPages session before pool
+
 -- An End was answered: this is the session of the bytes that were taken, whatever follows them.
-pub record AnsweredToEnd (settings : Parts) (spare : ℕ) (old now : Left ℕ) (before pool : Pool) (out0 out : Written ℕ) (taken : List ℕ) : Type 0 where
+pub record AnsweredToEnd (settings : Parts) (spare : ℕ) (old now : Left ℕ) (before pool : Pool) (desk : Desk) (out0 out : Written ℕ) (taken : List ℕ) : Type 0 where
   pub session : Session
   pub session_is : (more : List ℕ) → SessionOf settings spare (taken ++ more) session
   pub took : Took old now taken
-  pub gained : GainedPages session before pool
+  pub leaves : LeavesSession settings spare session before pool desk
   pub wrote : Wrote out0 out (answer_lines session.answers)
 
 -- An answer couldn't be printed: a front of the lines was written of the answers to a front of what was taken.
@@ -49,20 +56,25 @@ pub record AnsweredUnprinted (settings : Parts) (spare : ℕ) (old now : Left �
   pub took : Took old now taken
   pub wrote : WroteFront out0 out (answer_lines session.answers)
 
+-- An answer couldn't be printed, and this is left of the session that it ended.
+pub record StoppedUnprinted (settings : Parts) (spare : ℕ) (old now : Left ℕ) (before pool : Pool) (desk : Desk) (out0 out : Written ℕ) (taken : List ℕ) : Type 0 where
+  pub unprinted : AnsweredUnprinted settings spare old now out0 out taken
+  pub leaves : LeavesSession settings spare unprinted.session before pool desk
+
 -- It goes on, it ended, or an answer couldn't be printed.
 abbrev pub AnswersOn : {E : Type 0} → Parts → ℕ → Left ℕ → Left ℕ → Pool → Pool → Desk → Written ℕ → Written ℕ → List ℕ → List ℕ → Result Course E → Type 0
 AnswersOn settings spare old now before pool desk out0 out taken ahead (Ok GoesOn) = Answering settings spare old now before pool desk out0 out taken ahead
-AnswersOn settings spare old now before pool desk out0 out taken ahead (Ok Ended) = AnsweredToEnd settings spare old now before pool out0 out taken
-AnswersOn settings spare old now before pool desk out0 out taken ahead (Err _) = AnsweredUnprinted settings spare old now out0 out taken
+AnswersOn settings spare old now before pool desk out0 out taken ahead (Ok Ended) = AnsweredToEnd settings spare old now before pool desk out0 out taken
+AnswersOn settings spare old now before pool desk out0 out taken ahead (Err _) = StoppedUnprinted settings spare old now before pool desk out0 out taken
 
 -- The session of the input was answered: this is the session of all that was left, of which enough was taken. No call failed.
-pub record AnsweredInput (settings : Parts) (spare : ℕ) (old new : Left ℕ) (before after : Pool) (out0 out : Written ℕ) : Type 0 where
+pub record AnsweredInput (settings : Parts) (spare : ℕ) (old new : Left ℕ) (before after : Pool) (desk : Desk) (out0 out : Written ℕ) : Type 0 where
   pub taken : List ℕ
   pub took : Took old new taken
   pub session : Session
   pub session_is : SessionOf settings spare taken session
   pub of_all : IsTrue old.tells → SessionOf settings spare old.left session
-  pub gained : GainedPages session before after
+  pub leaves : LeavesSession settings spare session before after desk
   pub wrote : Wrote out0 out (answer_lines session.answers)
 
 -- A read failed after these bytes, which no steady input has. The answers to them were printed.
@@ -77,8 +89,13 @@ pub record AnsweredBroken (settings : Parts) (spare : ℕ) (old new : Left ℕ) 
   pub session_is : SessionOf settings spare taken session
   pub wrote : Wrote out0 out (answer_lines session.answers)
 
+-- A read failed, and this is left of the session that it ended.
+pub record StoppedBroken (settings : Parts) (spare : ℕ) (old new : Left ℕ) (before after : Pool) (desk : Desk) (out0 out : Written ℕ) : Type 0 where
+  pub broken : AnsweredBroken settings spare old new out0 out
+  pub leaves : LeavesSession settings spare broken.session before after desk
+
 -- how the answers to an input ended
-abbrev pub AnswersInput : Parts → ℕ → Left ℕ → Left ℕ → Pool → Pool → Written ℕ → Written ℕ → InputEnd → Type 0
-AnswersInput settings spare old new before after out0 out Answered = AnsweredInput settings spare old new before after out0 out
-AnswersInput settings spare old new before after out0 out Broken = AnsweredBroken settings spare old new out0 out
-AnswersInput settings spare old new before after out0 out Unprinted = (taken : List ℕ) × AnsweredUnprinted settings spare old new out0 out taken
+abbrev pub AnswersInput : Parts → ℕ → Left ℕ → Left ℕ → Pool → Pool → Desk → Written ℕ → Written ℕ → InputEnd → Type 0
+AnswersInput settings spare old new before after desk out0 out Answered = AnsweredInput settings spare old new before after desk out0 out
+AnswersInput settings spare old new before after desk out0 out Broken = StoppedBroken settings spare old new before after desk out0 out
+AnswersInput settings spare old new before after desk out0 out Unprinted = (taken : List ℕ) × StoppedUnprinted settings spare old new before after desk out0 out taken

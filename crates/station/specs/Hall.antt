@@ -1,7 +1,7 @@
 -- What a station is seen as.
 use Rattle.std.specs.Coded.{Coded, code_by, coded×}
 use Rattle.std.specs.Prelude.{◌≡◌, refl}
-use Rattle.page_pool.specs.Pool.{Pool}
+use Rattle.page_pool.specs.Pool.{Pool, cells}
 use Rattle.page_pool.specs.contracts.pool.Pool as a_pool
 use Rattle.subscribers.specs.Parts.{Parts, parts_code}
 use Rattle.tap_terminal.specs.Desk.{Desk}
@@ -24,6 +24,7 @@ hall_code =
 abbrev pub hall_of : Inside → Hall
 hall_of s = record { settings = s.settings; desk = s.terminal; pool = s.pool }
 
--- the terminal has the password of the settings
-abbrev pub IsReady : Inside → Type 0
-IsReady s = s.terminal.password ≡ s.settings.password
+-- The terminal has the password of the settings, and the pool their cells: those in use and the spare ones add up to as many.
+pub record IsReady (s : Inside) : Type 0 where
+  pub password : s.terminal.password ≡ s.settings.password
+  pub cells_are : cells s.pool ≡ s.settings.cells

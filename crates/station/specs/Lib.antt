@@ -12,6 +12,7 @@ pub mod Rows
 pub mod Sends
 pub mod Served
 pub mod Serving
+pub mod Leaves
 pub mod Sessions
 pub mod Silent
 pub mod StationRows

@@ -127,16 +127,6 @@ pub record SoFar {settings : Parts} {spare : ℕ} (old now : Around) (address na
   pub no_page : pool.live ≡ []
   pub all_spare : pool.spare ≡ spare
 
--- One session more is served, or the serving ended.
-abbrev pub Further : Parts → ℕ → Around → Around → List ℕ → List ℕ → ℕ → Pool → ℕ → Option Status → Type 0
-Further settings spare old now address name most pool number None = (sessions : List (Served settings spare)) × SoFar old now address name most pool sessions × (length sessions ≡ number)
-Further settings spare old now address name most pool number (Some status) = HasServed settings spare old now address name most status
-
--- No page waits in the pool, but where a file failed.
-abbrev pub IsIdle : Pool → Status → Type 0
-IsIdle pool FileFault = Unit {0}
-IsIdle pool other = pool.live ≡ []
-
 -- The transmission of a pool's pages was appended to a file, in bytes, and the pool is empty.
 pub record SendsTo {T E : Type 0} (before after : Pool) (old new : Files) (name : List ℕ) (result : Result T E) : Type 0 where
   pub bits : List Bool

@@ -1,7 +1,7 @@
 //! A session that is read from an input, and whose answers are printed.
 
 ghost use Rattle.std.specs.Prelude.{◌≡◌, ℕ, [], ◌∷◌, List};
-ghost use Rattle.page_pool.specs.Pool.{Pool as Waiting};
+ghost use Rattle.page_pool.specs.Pool.{Pool as Waiting, cells};
 ghost use Rattle.station.specs.Answering.{Answering, AnswersInput, AnswersOn};
 ghost use Rattle.station.specs.Answers.{answer_line as answer_line_of, reason_line as reason_line_of};
 ghost use Rattle.wires.specs.Left.{Left};
@@ -42,7 +42,8 @@ impl Station {
         out: &mut O,
     ) -> InputEnd
         ensures settings { self.new.settings ≡ self.old.settings }
-        ensures answers { AnswersInput self.old.settings self.old.pool.spare (I.state input.old) (I.state input.new) self.old.pool self.new.pool (O.state out.old) (O.state out.new) result }
+        ensures answers { AnswersInput self.old.settings self.old.pool.spare (I.state input.old) (I.state input.new) self.old.pool self.new.pool self.new.desk (O.state out.old) (O.state out.new) result }
+        ensures cells_stay { cells self.new.pool ≡ cells self.old.pool }
     {
         self.terminal.begin();
         let mut buffer = [0; READ_AT_ONCE];
@@ -66,6 +67,7 @@ impl Station {
         ensures on { (spare : ℕ) (first now : Left ℕ) (before : Waiting) (out0 : Written ℕ) (taken : List ℕ)
             → Answering self.old.settings spare first now before self.old.pool self.old.desk out0 (O.state out.old) taken bytes.now
             → AnswersOn self.new.settings spare first now before self.new.pool self.new.desk out0 (O.state out.new) taken [] result }
+        ensures cells_stay { cells self.new.pool ≡ cells self.old.pool }
     {
         for byte in bytes {
             match self.answer(*byte, out) {
@@ -83,6 +85,7 @@ impl Station {
         ensures on { (spare : ℕ) (first now : Left ℕ) (before : Waiting) (out0 : Written ℕ) (taken ahead : List ℕ)
             → Answering self.old.settings spare first now before self.old.pool self.old.desk out0 (O.state out.old) taken (byte ∷ ahead)
             → AnswersOn self.new.settings spare first now before self.new.pool self.new.desk out0 (O.state out.new) taken ahead result }
+        ensures cells_stay { cells self.new.pool ≡ cells self.old.pool }
     {
         let answer = self.terminal.feed(byte, &self.settings, &mut self.pool);
         if let Answer::Nothing = answer {

@@ -1,6 +1,7 @@
 //! Listening to bits through a noise, some at a time.
 
 ghost use Rattle.std.specs.Prelude.{◌≡◌, ◌<◌, ◌≤◌, ◌^◌, [], ◌++◌, IfOk, IsFalse, IsTrue, drop, length, take};
+ghost use Rattle.station.specs.Leaves.{LeavesBits};
 ghost use Rattle.station.specs.Noise.{ListensThrough, NoiseGives};
 ghost use Rattle.wires.specs.Stacked.{noisy_bits};
 
@@ -21,6 +22,7 @@ fn refill<A: BitSource>(bits: &mut A, piece: &mut Piece) -> bool
     ensures same { piece.new ++ (A.state bits.new).left ≡ piece.old ++ (A.state bits.old).left }
     ensures some { IsTrue result → 0 < length piece.new }
     ensures end { IsFalse result → piece.old ++ (A.state bits.old).left ≡ [] }
+    ensures lent { (A.state bits.new).lent ≡ (A.state bits.old).lent }
 {
     if !piece.is_empty() {
         return true;
@@ -81,7 +83,8 @@ pub(crate) fn listen_through<A: BitSource, N: BitSource, P: Listener, O: Sink>(
     requires few { length (A.state bits.old).left < 2 ^ 32 }
     requires none { P.fed listener.old [] }
     requires silent { P.printed listener.old [] ≡ [] }
-    ensures { ListensThrough (P.printed listener.old) (A.state bits.old).left (N.state noise.old) (N.state noise.new) (O.state out.old) (O.state out.new) result }
+    ensures leaves { LeavesBits (A.state bits.old) (A.state bits.new) result }
+    ensures listens { ListensThrough (P.printed listener.old) (A.state bits.old).left (N.state noise.old) (N.state noise.new) (O.state out.old) (O.state out.new) result }
 {
     let mut ended = false;
     let mut piece = Piece::of(0, 0);

@@ -7,11 +7,13 @@
 //! What to mind. What serving comes to is said for the list of the sessions that were served (`specs/Served.antt`), status by status
 //! (`specs/Serving.antt`). The lines are numbered from 1.
 
-ghost use Rattle.std.specs.Prelude.{◌≡◌, ℕ, ◌+◌, ◌≤◌, List, length, MatchOption, OnOk, Option, []};
+ghost use Rattle.std.specs.Prelude.{◌≡◌, ℕ, ◌+◌, ◌≤◌, List, length, OnOk, []};
 ghost use Rattle.air.specs.Sends.{Sends};
 ghost use Rattle.page_pool.specs.Pool.{cells, pages};
 ghost use Rattle.station.specs.Served.{Served};
-ghost use Rattle.station.specs.Serving.{Around, Further, HasServed, IsIdle, SendsTo, SoFar};
+ghost use Rattle.station.specs.Leaves.{Further, Serves, desk_after};
+ghost use Rattle.station.specs.Serving.{Around, SendsTo, SoFar};
+ghost use Rattle.tap_terminal.specs.Desk.{Desk};
 ghost use Rattle.subscribers.specs.Parts.{Parts};
 ghost use Rattle.wires.specs.Stacked.{bits_over};
 
@@ -33,7 +35,8 @@ impl Station {
     ///
     /// Done comes where `count` connections were served or no further one came. FileFault comes only where the shelf failed, WireFault
     /// only where `listen` or `next` did, and OutFault only where `out` did. A session whose line was lost, or whose `hang_up` failed, is
-    /// reported like any other, and the serving goes on. No page is left in the pool, but where the shelf failed.
+    /// reported like any other, and the serving goes on. No page is left in the pool, but where an append failed. `report` is then that of
+    /// the last session that was served, and where none was the one before.
     pub fn serve<W: Wire, F: Shelf, O: Sink>(
         &mut self,
         wire: &mut W,
@@ -44,11 +47,10 @@ impl Station {
         out: &mut O,
     ) -> Status
         ensures settings { self.new.settings ≡ self.old.settings }
-        ensures cells_stay { cells self.new.pool ≡ cells self.old.pool }
-        ensures served { HasServed self.old.settings (cells self.old.pool)
+        ensures cells_are { cells self.new.pool ≡ self.old.settings.cells }
+        ensures serves { Serves self.old.settings self.old.settings.cells
             (record { wire = W.state wire.old; shelf = F.state shelf.old; out = O.state out.old })
-            (record { wire = W.state wire.new; shelf = F.state shelf.new; out = O.state out.new }) address.now air.now count result }
-        ensures idle { IsIdle self.new.pool result }
+            (record { wire = W.state wire.new; shelf = F.state shelf.new; out = O.state out.new }) address.now air.now count self.old.desk self.new.pool self.new.desk result }
     {
         self.pool.clear();
         if let Err(Failed) = shelf.fresh(air) {
@@ -76,12 +78,11 @@ impl Station {
     ) -> Option<Status>
         ensures settings { self.new.settings ≡ self.old.settings }
         ensures cells_stay { cells self.new.pool ≡ cells self.old.pool }
-        ensures further { (settings : Parts) (spare most : ℕ) (first : Around) (address : List ℕ) (sessions : List (Served settings spare))
+        ensures further { (settings : Parts) (spare most : ℕ) (first : Around) (begun : Desk) (address : List ℕ) (sessions : List (Served settings spare))
             → self.old.settings ≡ settings
             → SoFar first (record { wire = W.state wire.old; shelf = F.state shelf.old; out = O.state out.old }) address air.now most self.old.pool sessions
-            → length sessions + 1 ≡ number → number ≤ most
-            → Further settings spare first (record { wire = W.state wire.new; shelf = F.state shelf.new; out = O.state out.new }) address air.now most self.new.pool number result }
-        ensures idle { self.old.pool.live ≡ [] → MatchOption result (self.new.pool.live ≡ []) (λ status. IsIdle self.new.pool status) }
+            → self.old.desk ≡ desk_after begun sessions → length sessions + 1 ≡ number → number ≤ most
+            → Further settings spare first (record { wire = W.state wire.new; shelf = F.state shelf.new; out = O.state out.new }) address air.now most begun self.new.pool self.new.desk number result }
     {
         match wire.next() {
             Ok(true) => {}

@@ -9,7 +9,7 @@
 //! comes to its end.
 
 ghost use Rattle.std.specs.Prelude.{◌≡◌, ℕ, ◌≤◌, ◌∷◌, [], List, length, IsTrue, IsFalse, IfOk, Some, Option};
-ghost use Rattle.page_pool.specs.Pool.{Pool as Waiting};
+ghost use Rattle.page_pool.specs.Pool.{Pool as Waiting, cells};
 ghost use Rattle.station.specs.Sessions.{Closes, decided, GoesOn, Ran, StandsFor, UnderWay};
 ghost use Rattle.tap_terminal.specs.Desk.{Stands, unheard};
 ghost use Rattle.tap_terminal.specs.Session.{Session};
@@ -42,7 +42,7 @@ pub enum SessionEnd {
 }
 
 /// The station: the settings, the pool of the pages that wait to be sent, and the terminal that answers its sessions. A contract sees
-/// it as these three (`Hall`).
+/// it as these three (`Hall`). The pool has the cells of the settings, whatever was called before.
 #[derive(Drop)]
 pub struct Station {
     pub(crate) settings: Settings,
@@ -86,7 +86,8 @@ impl Station {
 
     /// How many pages wait in the pool, from 0 to 65,536.
     pub fn pages(&self) -> u32
-        ensures { result ≡ length self.now.pool.live }
+        ensures count { result ≡ length self.now.pool.live }
+        ensures cells_are { cells self.now.pool ≡ self.now.settings.cells }
     {
         self.pool.count()
     }
@@ -110,6 +111,7 @@ impl Station {
         ensures settings { self.new.settings ≡ self.old.settings }
         ensures ran { Ran self.old.settings self.old.pool.spare (W.state wire.old) (W.state wire.new) self.old.pool self.new.pool self.new.desk result }
         ensures closes { Closes self.old.settings self.old.pool.spare (W.state wire.old) (W.state wire.new) }
+        ensures cells_are { cells self.new.pool ≡ self.old.settings.cells }
     {
         self.terminal.begin();
         let end = self.talk(wire);
@@ -123,6 +125,7 @@ impl Station {
         ensures ran { (spare : ℕ) (first : Line) (before : Waiting)
             → UnderWay self.old.settings spare first (W.state wire.old) before self.old.pool self.old.desk [] []
             → GoesOn self.new.settings spare first (W.state wire.new) before self.new.pool self.new.desk [] [] (Some result) }
+        ensures cells_stay { cells self.new.pool ≡ cells self.old.pool }
     {
         let mut buffer = [0; HEARD_AT_ONCE];
         for _ in 0..LAST_CHARACTER {
@@ -145,6 +148,7 @@ impl Station {
         ensures on { (spare : ℕ) (first : Line) (before : Waiting) (heard : List ℕ)
             → UnderWay self.old.settings spare first (W.state wire.old) before self.old.pool self.old.desk heard bytes.now
             → GoesOn self.new.settings spare first (W.state wire.new) before self.new.pool self.new.desk heard [] result }
+        ensures cells_stay { cells self.new.pool ≡ cells self.old.pool }
     {
         for byte in bytes {
             if let Some(end) = self.take(*byte, wire) {
@@ -160,6 +164,7 @@ impl Station {
         ensures on { (spare : ℕ) (first : Line) (before : Waiting) (heard ahead : List ℕ)
             → UnderWay self.old.settings spare first (W.state wire.old) before self.old.pool self.old.desk heard (byte ∷ ahead)
             → GoesOn self.new.settings spare first (W.state wire.new) before self.new.pool self.new.desk heard ahead result }
+        ensures cells_stay { cells self.new.pool ≡ cells self.old.pool }
     {
         let answer = self.terminal.feed(byte, &self.settings, &mut self.pool);
         match answer {

@@ -3,7 +3,6 @@
 ghost use Rattle.std.specs.Prelude.{◌≡◌, []};
 ghost use Rattle.receiver.specs.Listeners.{StandsFor as HasHeard};
 ghost use Rattle.station.specs.PageLines.{group_lines};
-ghost use Rattle.page_pool.specs.Pool.{cells};
 ghost use Rattle.station.specs.StationRows.{ComesTo, StationRow, TrialRow, TriesFile};
 
 use crate::capcodes::Capcodes;
@@ -90,7 +89,7 @@ fn try_file<F: Shelf, I: Source, O: Sink>(
     out: &mut O,
 ) -> Status
     requires { HasHeard group.old [] }
-    ensures { TriesFile station.old.settings (cells station.old.pool) (group_lines group.old) noise.now (I.state input.old) (I.state input.new) (F.state shelf.old) (F.state shelf.new)
+    ensures { TriesFile station.old.settings station.old.settings.cells (group_lines group.old) noise.now (I.state input.old) (I.state input.new) (F.state shelf.old) (F.state shelf.new)
         (O.state out.old) (O.state out.new) result }
 {
     let mut bits = ShelfBits::over(shelf, noise);

@@ -4,7 +4,8 @@ ghost use Rattle.std.specs.Prelude.{◌≡◌, []};
 ghost use Rattle.page_pool.specs.Pool.{cells, pages};
 ghost use Rattle.receiver.specs.Listeners.{StandsFor as HasHeard};
 ghost use Rattle.station.specs.PageLines.{group_lines};
-ghost use Rattle.station.specs.Trying.{HearsPages, Tries};
+ghost use Rattle.station.specs.Leaves.{HasTried, HearingLeaves};
+ghost use Rattle.station.specs.Trying.{HearsPages};
 
 use crate::answering::InputEnd;
 use crate::noise::listen_through;
@@ -28,7 +29,8 @@ impl Station {
     /// the transmission, and not where no page was accepted.
     ///
     /// The answer is Done where all was printed; InputFault where a read of the input failed; FileFault where one of the noise did;
-    /// OutFault where a write did.
+    /// OutFault where a write did. No page is left in the pool behind Done. `report` is then that of the session that was tried, at every
+    /// answer.
     pub fn trial<I: Source, N: BitSource, O: Sink>(
         &mut self,
         input: &mut I,
@@ -38,7 +40,9 @@ impl Station {
     ) -> Status
         requires { HasHeard group.old [] }
         ensures settings { self.new.settings ≡ self.old.settings }
-        ensures tries { Tries self.old.settings (cells self.old.pool) (group_lines group.old) (I.state input.old) (I.state input.new) (N.state noise.old) (N.state noise.new) (O.state out.old) (O.state out.new) result }
+        ensures cells_are { cells self.new.pool ≡ self.old.settings.cells }
+        ensures tries { HasTried self.old.settings self.old.settings.cells (group_lines group.old) (I.state input.old) (I.state input.new) (N.state noise.old) (N.state noise.new) (O.state out.old) (O.state out.new)
+            self.new.pool self.new.desk result }
     {
         self.pool.clear();
         match self.answer_input(input, out) {
@@ -61,7 +65,8 @@ fn hear_pages<N: BitSource, O: Sink>(
     out: &mut O,
 ) -> Status
     requires { HasHeard group.old [] }
-    ensures { HearsPages (pages pool.old) (group_lines group.old) (N.state noise.old) (N.state noise.new) (O.state out.old) (O.state out.new) result }
+    ensures leaves { HearingLeaves pool.old pool.new result }
+    ensures hears { HearsPages (pages pool.old) (group_lines group.old) (N.state noise.old) (N.state noise.new) (O.state out.old) (O.state out.new) result }
 {
     if pool.count() == 0 {
         return Status::Done;

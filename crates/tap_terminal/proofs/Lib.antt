@@ -2,5 +2,6 @@ pub mod Reports
 pub mod Sessions
 pub mod Verdicts
 pub mod Feeds
+pub mod Cells
 pub mod Fronts
 mod Rows

@@ -8,6 +8,7 @@
 //! the scanner before the next character is fed.
 
 ghost use Rattle.std.specs.Prelude.{◌≡◌, ℕ, ◌+◌, ◌≤◌, ◌<◌, ◌++◌, ◌∷◌, [], List, Option, Some, min, take, length, length as length_of};
+ghost use Rattle.page_pool.specs.Pool.{cells};
 ghost use Rattle.tap_block.specs.Chars.{char_of};
 ghost use Rattle.tap_block.specs.Reading.{Entry, a_block};
 ghost use Rattle.tap_block.specs.Brief.{answer_of, BodyIs};
@@ -100,12 +101,14 @@ impl Terminal {
     /// the session's millionth, or an End came before.
     ///
     /// Whatever was fed before: where the terminal stands for those characters, it now stands for them and this one. The answers of
-    /// the longer session are those before and this one, and its pages are those before and the one that the pool gained, if any.
+    /// the longer session are those before and this one, and its pages are those before and the one that the pool gained, if any. The
+    /// pool has the cells that it had.
     pub fn feed(&mut self, byte: u8, settings: &Settings, pool: &mut Pool) -> Answer
         ensures password { self.new.password ≡ self.old.password }
         ensures hears { (password : Option (List ℕ)) (spare : ℕ) (x : List ℕ) (session : Session)
             → Stands password (directory_of settings.now) spare self.old x session pool.old.spare
             → HearsOn password (directory_of settings.now) spare self.new x (char_of byte) session result pool.old pool.new }
+        ensures cells_stay { cells pool.new ≡ cells pool.old }
     {
         match self.stage {
             Stage::Ended | Stage::Forced => return Answer::Nothing,
@@ -152,6 +155,7 @@ impl Terminal {
         ensures keeps { Keeps self.old self.new }
         ensures judged { (e : Entry) → item ≡ answer_of e → BodyIs (Some e) self.old.scanner.kept
             → IsJudged (directory_of settings.now) self.old self.new e result pool.old pool.new }
+        ensures cells_stay { cells pool.new ≡ cells pool.old }
     {
         match item {
             Item::EmptyLine => Answer::Id,
@@ -190,6 +194,7 @@ impl Terminal {
         ensures keeps { Keeps self.old self.new }
         ensures judged { (b : List ℕ) → length ≡ min (length_of b) 251 → self.old.scanner.kept ≡ take 250 b
             → IsJudged (directory_of settings.now) self.old self.new (a_block b end sum_ok) result pool.old pool.new }
+        ensures cells_stay { cells pool.new ≡ cells pool.old }
     {
         if !sum_ok {
             return Answer::Nak;

@@ -2,6 +2,7 @@ use Rattle.std.proofs.Common.{◌++◌, ◌+◌, ◌<◌, ◌^◌, ◌∙◌, ap
 use Rattle.wires.specs.Stacked.{noisy_bits}
 use Rattle.wires.proofs.Pieces.{none_left}
 use Rattle.station.proofs.Listens.{prints_as}
+use Rattle.station.proofs.LeftBits.{leaves_bits, no_rest}
 use Rattle.station.proofs.NoisyHeard.{cut_left, few_now, first_long, flipped_long, prints_made, some_left, then_heard, through_all, through_begins, through_failed, through_goes_on, through_unprinted, with_left}
 use Rattle.station.proofs.noise.listen_through.Goals as goal
 
@@ -13,6 +14,7 @@ loop-piece-init g c =
       same = refl;
       tells = c.requires.told;
       steady = c.requires.steady;
+      lent = refl;
       so_far = (
         with_left _ _ bits (c.of-piece.result ++ bits) _ _ _ _ _ (sym (ap (λ (xs : List Bool). xs ++ bits) none))
             (through_begins (g.P.Listener.printed c.args.listener.now) bits (g.N.BitSource.state c.args.noise.now) (g.O.Sink.state c.args.out.now) c.requires.silent),
@@ -20,14 +22,14 @@ loop-piece-init g c =
       );
     }
 
-pub returns-in-Err : goal.returns-in-Err
-returns-in-Err g c =
+pub returns-in-Err-clause-listens : goal.returns-in-Err-clause-listens
+returns-in-Err-clause-listens g c =
     let more = some_left (c.loop-piece.piece ++ (g.A.BitSource.state c.loop-piece.bits).left) c.refill.new.piece (g.A.BitSource.state c.refill.new.bits).left
     c.refill.ensures.same (c.refill.ensures.some c.loop-piece-test.true) in
     through_failed _ _ _ _ _ _ _ _ _ _ c.in-Err.field-0 c.loop-piece.invariant.so_far.0 c.in-Err.ensures.gives more
 
-pub returns-in-Err-hear_all : goal.returns-in-Err-hear_all
-returns-in-Err-hear_all g c =
+pub returns-in-Err-hear_all-clause-listens : goal.returns-in-Err-hear_all-clause-listens
+returns-in-Err-hear_all-clause-listens g c =
     let v = c.loop-piece.invariant.so_far in
     let piece = c.refill.new.piece in
     let rest = (g.A.BitSource.state c.refill.new.bits).left in
@@ -66,6 +68,7 @@ loop-piece-preserved g c =
       same = c.in_default.ensures.same ∙ c.loop-piece.invariant.same;
       tells = c.refill.ensures.told;
       steady = c.refill.ensures.steady;
+      lent = c.refill.ensures.lent ∙ c.loop-piece.invariant.lent;
       so_far = (
         through_goes_on _ _ more (left ++ rest) _ _ _ _ _ _ _ _ flips _ h c.in-Ok.ensures.gives long.0 long.1 (prints_made _ heard made (noisy_bits more flips) _ _ _ c.flip_first-flipped.ensures.flipped p),
         subst (λ (bits : List Bool). g.P.Listener.fed c.hear_all.new.listener bits)
@@ -74,5 +77,21 @@ loop-piece-preserved g c =
       );
     }
 
-pub returns : goal.returns
-returns g c = through_all _ _ _ _ _ _ _ _ (c.refill.ensures.end c.loop-piece-test.false) c.loop-piece.invariant.so_far.0
+pub returns-clause-listens : goal.returns-clause-listens
+returns-clause-listens g c = through_all _ _ _ _ _ _ _ _ (c.refill.ensures.end c.loop-piece-test.false) c.loop-piece.invariant.so_far.0
+
+pub returns-in-Err-clause-leaves : goal.returns-in-Err-clause-leaves
+returns-in-Err-clause-leaves g c =
+    leaves_bits (g.A.BitSource.state c.args.bits.now) (g.A.BitSource.state c.loop-piece.bits) (g.A.BitSource.state c.refill.new.bits) c.loop-piece.invariant.so_far.0.heard c.loop-piece.piece c.refill.new.piece _
+    c.loop-piece.invariant.so_far.0.bits_are c.refill.ensures.same c.loop-piece.invariant.lent c.refill.ensures.lent (λ e. cc)
+
+pub returns-in-Err-hear_all-clause-leaves : goal.returns-in-Err-hear_all-clause-leaves
+returns-in-Err-hear_all-clause-leaves g c =
+    leaves_bits (g.A.BitSource.state c.args.bits.now) (g.A.BitSource.state c.loop-piece.bits) (g.A.BitSource.state c.refill.new.bits) c.loop-piece.invariant.so_far.0.heard c.loop-piece.piece c.refill.new.piece _
+    c.loop-piece.invariant.so_far.0.bits_are c.refill.ensures.same c.loop-piece.invariant.lent c.refill.ensures.lent (λ e. cc)
+
+pub returns-clause-leaves : goal.returns-clause-leaves
+returns-clause-leaves g c =
+    leaves_bits (g.A.BitSource.state c.args.bits.now) (g.A.BitSource.state c.loop-piece.bits) (g.A.BitSource.state c.refill.new.bits) c.loop-piece.invariant.so_far.0.heard c.loop-piece.piece c.refill.new.piece _
+    c.loop-piece.invariant.so_far.0.bits_are c.refill.ensures.same c.loop-piece.invariant.lent c.refill.ensures.lent
+    (λ e. no_rest c.refill.new.piece (g.A.BitSource.state c.refill.new.bits).left (c.refill.ensures.same ∙ c.refill.ensures.end c.loop-piece-test.false))

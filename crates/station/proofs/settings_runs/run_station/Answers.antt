@@ -1,4 +1,6 @@
-use Rattle.station.proofs.SettingsRuns.{cells_spare, station_row}
+use Rattle.std.proofs.Common.{ap}
+use Rattle.subscribers.specs.Parts.{Parts}
+use Rattle.station.proofs.SettingsRuns.{station_row}
 use Rattle.station.proofs.settings_runs.run_station.Goals as goal
 
 pub returns : goal.returns
@@ -7,4 +9,4 @@ returns g c =
     (record { wire = g.W.Wire.state c.args.wire.now; shelf = g.F.Shelf.state c.args.shelf.now; out = g.O.Sink.state c.args.out.now })
     (record { wire = g.W.Wire.state c.serve.new.wire; shelf = g.F.Shelf.state c.serve.new.shelf; out = g.O.Sink.state c.serve.new.out })
     c.in-Ok.settings c.in-Ok-new.station.settings (g.F.Shelf.state c.read_settings.new.shelf) _ c.serve.result c.in-Ok-new.ensures.settings
-    (cells_spare c.in-Ok-new.station.pool c.in-Ok.settings.cells c.in-Ok-new.ensures.no_pages c.in-Ok-new.ensures.spare) c.in-Ok.ensures c.serve.ensures.served
+    (ap (λ (p : Parts). p.cells) c.in-Ok-new.ensures.settings) c.in-Ok.ensures c.serve.ensures.serves.served

@@ -1,5 +1,5 @@
 use Rattle.std.proofs.Common.{sym, ◌∙◌}
-use Rattle.air.proofs.Bits.{bits-begun, bits-none}
+use Rattle.air.proofs.Bits.{bits-begun, bits-none, no_bit}
 use Rattle.air.proofs.bit_reader.AirBits.begin.Goals as goal
 
 pub returns-in_default-clause-same : goal.returns-in_default-clause-same
@@ -19,3 +19,6 @@ returns-clause-same g c =
     let old = c.args.self.now in
     let new = c.next.new.self in
     bits-begun old.pending old.word old.order new.order old.pool.now new.pool.now c.in-Some.word c.if-self-ne0.false c.in-Some.ensures.gives
+
+pub invariant_of-self-clause-empties : goal.invariant_of-self-clause-empties
+invariant_of-self-clause-empties g c = no_bit _ _ _ _ c.next.new.self.follows

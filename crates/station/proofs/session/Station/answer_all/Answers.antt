@@ -23,6 +23,7 @@ returns-in-Err-clause-on g c = λ spare first now before out0 taken u.
 pub loop-byte-preserved : goal.loop-byte-preserved
 loop-byte-preserved g c = record {
   settings = c.answer.ensures.settings ∙ c.loop-byte.invariant.settings;
+  cells_stay = c.answer.ensures.cells_stay ∙ c.loop-byte.invariant.cells_stay;
   on = λ spare first now before out0 taken u.
       let lt : c.loop-byte.byte-index < length c.args.bytes.now = c.loop-byte-test.true in
       let v = c.loop-byte.invariant.on spare first now before out0 taken u in

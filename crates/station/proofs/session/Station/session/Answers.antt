@@ -17,13 +17,14 @@ returns g c =
     let settings = c.self.inside.settings in
     let pool = c.self.inside.pool in
     let after = c.talk-end.new.self in
-    let stands = subst (λ (p : Option (List _)). Stands p (directory_of settings) pool.spare c.begin.new.self [] unheard pool.spare) c.self.invariant (c.begin.ensures.stands (directory_of settings) pool.spare) in
+    let stands = subst (λ (p : Option (List _)). Stands p (directory_of settings) pool.spare c.begin.new.self [] unheard pool.spare) c.self.invariant.password (c.begin.ensures.stands (directory_of settings) pool.spare) in
     let r = c.talk-end.ensures.ran pool.spare old pool (begins settings old pool c.begin.new.self stands) in
     let q = hung_up _ _ _ _ _ _ _ _ _ _ r.0 r.1 c.hang_up.ensures in
     record {
       settings = c.talk-end.ensures.settings ∙ ap (λ (h : Hall). h.settings) c.self.view_is;
       ran = subst (λ (h : Hall). Ran h.settings h.pool.spare old now h.pool after.pool after.desk c.talk-end.result) c.self.view_is
           (subst (λ (k : Parts). Ran k pool.spare old now pool after.pool after.desk c.talk-end.result) c.talk-end.ensures.settings q);
+      cells_are = c.talk-end.ensures.cells_stay ∙ (c.self.invariant.cells_are ∙ ap (λ (h : Hall). h.settings.cells) c.self.view_is);
       closes = record {
         shut = λ k. c.hang_up.ensures.shut (still r.0.line.tells k);
         later = omega (arith, r.2, c.hang_up.ensures.cause.later);

@@ -5,6 +5,7 @@ use Rattle.station.proofs.session.Station.take_all.Goals as goal
 pub loop-byte-preserved : goal.loop-byte-preserved
 loop-byte-preserved g c = record {
   settings = c.take.ensures.settings ∙ c.loop-byte.invariant.settings;
+  cells_stay = c.take.ensures.cells_stay ∙ c.loop-byte.invariant.cells_stay;
   on = λ spare first before heard u.
       let lt : c.loop-byte.byte-index < length c.args.bytes.now = c.loop-byte-test.true in
       let v = c.loop-byte.invariant.on spare first before heard u in

@@ -22,6 +22,7 @@ returns-clause-ran g c = λ spare first before u.
 pub loop-preserved : goal.loop-preserved
 loop-preserved g c = record {
   settings = c.take_all.ensures.settings ∙ c.loop.invariant.settings;
+  cells_stay = c.take_all.ensures.cells_stay ∙ c.loop.invariant.cells_stay;
   on = λ spare first before u.
       let v = c.loop.invariant.on spare first before u in
       let lt : 0 < c.in-Ok.n = omega arith in

@@ -16,6 +16,7 @@ returns-in-Ended c = record {
   password = refl;
   hears = λ password spare x session k. closed_on password (directory_of c.args.settings.now) spare c.args.self.now x (char_of c.args.byte) session c.args.pool.now
       (ap (λ (d : Desk). is_open d.stage) (sym c.self.view_is) ∙ closed_stage _ c.in-Ended.is) k;
+  cells_stay = refl;
 }
 
 pub returns-then-self-eq-LAST_CHARACTER-clause-hears : goal.returns-then-self-eq-LAST_CHARACTER-clause-hears

@@ -7,6 +7,7 @@ use Rattle.tap_terminal.specs.Desk.{Desk, IsJudged}
 use Rattle.tap_terminal.specs.DeskView.{desk_of}
 use Rattle.tap_block.specs.Reading.{a_block}
 use Rattle.tap_terminal.proofs.Verdicts.{judged_by, verdict_content, verdict_rest, goes_on_by, content_joined, content_no_end, small_body, kept_whole, refusal_done}
+use Rattle.tap_terminal.proofs.Cells.{cells_gain}
 use Rattle.tap_terminal.proofs.terminal.Terminal.judge_block.Goals as goal
 
 pub returns-then-len-body-gt-LONGEST_CONTENT-clause-judged : goal.returns-then-len-body-gt-LONGEST_CONTENT-clause-judged
@@ -58,3 +59,6 @@ returns-in-Etx-clause-judged c b h k =
     (judged_by f t c.clear-in-Etx.new.self.items b c.args.end c.args.sum_ok c.judge_content-answer.result pool after (judge_content f pool.spare whole)
     (verdict_rest f pool.spare t.joined b c.args.end c.args.sum_ok c.if-not-sum_ok.false (small_body b c.args.length h size_is) small ∙ at_end)
     c.judge_content-answer.ensures (c.clear-in-Etx.ensures ∙ sym (content_joined f pool.spare whole)) (ap (λ (d : Desk). d.stage) c.self.view_is ∙ c.requires) (content_no_end f pool.spare whole))
+
+pub returns-in-Etx-clause-cells_stay : goal.returns-in-Etx-clause-cells_stay
+returns-in-Etx-clause-cells_stay c = cells_gain _ _ _ c.judge_content-answer.ensures.pool
