@@ -17,6 +17,7 @@ use Rattle.station.specs.ReadFile.{ReadSettings}
 use Rattle.station.specs.Serving.{Around, HasServed}
 use Rattle.station.specs.StationRows.{AreFileBits, ServedBy, StationRow, TrialRow, TriedBy, TriesFile, with_shelf}
 use Rattle.station.specs.Trying.{Tries}
+use Rattle.station.proofs.TriedWell.{tried_well}
 
 -- a pool without pages has as many cells as are spare
 pub cells_spare : (w : Pool) (n : ℕ) → w.live ≡ [] → w.spare ≡ n → cells w ≡ n
@@ -104,6 +105,7 @@ tries_file parts spare printed m n name same then ready later from at i0 i old n
       };
       faults = refl;
       steady = λ t. (and_both new.steady (new.there then) t).0;
+      out_well = tried_well parts spare printed i0 i (shelf_bits n same ready from now) (shelf_bits m then later at new) o0 o status h;
     }
 
 -- the session of an input was tried by settings

@@ -34,3 +34,14 @@ pub record WroteFront {A : Type 0} (old new : Written A) (piece : List A) : Type
   pub unfit : IsTrue old.tells → IsTrue old.steady → length piece ≤ old.room → ⊥
   pub faults : Rose old.faults new.faults
   pub lent : new.lent ≡ old.lent
+
+-- The sink is steady, and has room for this.
+pub record FitFor (out : Written ℕ) (piece : List ℕ) : Type 0 where
+  pub tells : IsTrue out.tells
+  pub steady : IsTrue out.steady
+  pub room : length piece ≤ out.room
+
+-- No fault was counted, and the sink is steady.
+pub record StaysWell (old new : Written ℕ) : Type 0 where
+  pub steady : IsTrue new.steady
+  pub faults : new.faults ≡ old.faults

@@ -4,7 +4,7 @@ ghost use Rattle.std.specs.Prelude.{◌≡◌, []};
 ghost use Rattle.page_pool.specs.Pool.{cells, pages};
 ghost use Rattle.receiver.specs.Listeners.{StandsFor as HasHeard};
 ghost use Rattle.station.specs.PageLines.{group_lines};
-ghost use Rattle.station.specs.Trying.{HearsPages, Tries};
+ghost use Rattle.station.specs.Trying.{HearsPages, TrialOutWell, Tries};
 
 use crate::answering::InputEnd;
 use crate::noise::listen_through;
@@ -28,7 +28,8 @@ impl Station {
     /// the transmission, and not where no page was accepted.
     ///
     /// The answer is Done where all was printed; InputFault where a read of the input failed; FileFault where one of the noise did;
-    /// OutFault where a write did.
+    /// OutFault where a write did, which doesn't happen over a steady output with room for all lines. At each fault a front of all lines
+    /// was put.
     pub fn trial<I: Source, N: BitSource, O: Sink>(
         &mut self,
         input: &mut I,
@@ -39,6 +40,7 @@ impl Station {
         requires { HasHeard group.old [] }
         ensures settings { self.new.settings ≡ self.old.settings }
         ensures tries { Tries self.old.settings (cells self.old.pool) (group_lines group.old) (I.state input.old) (I.state input.new) (N.state noise.old) (N.state noise.new) (O.state out.old) (O.state out.new) result }
+        ensures out_well { TrialOutWell self.old.settings (cells self.old.pool) (group_lines group.old) (I.state input.old) (N.state noise.old) (O.state out.old) (O.state out.new) result }
     {
         self.pool.clear();
         match self.answer_input(input, out) {
