@@ -31,11 +31,10 @@ use Rattle.station.specs.Commands.{Command, One, Play, Send, Show, Station, Tria
 use Rattle.station.specs.FitWorlds.{roomy_connection, AreSteady, FitErrWithRoom, FitInMemory, FitWithRoom, HasFiles, longest_line_about, world, roomy}
 use Rattle.station.specs.LoneBlock.{HasText}
 use Rattle.station.specs.OneOutcome.{bits_listened}
-use Rattle.station.specs.OneRun.{line_about}
 use Rattle.station.specs.OneSend.{FitSend}
 use Rattle.station.specs.OneStation.{FitStation}
 use Rattle.station.specs.OneTrial.{FitTrial}
-use Rattle.station.specs.Outcomes.{pages_line}
+use Rattle.station.specs.Outcomes.{line_about, pages_line}
 use Rattle.station.specs.PageLines.{play_lines}
 use Rattle.station.specs.ReportLine.{longest_line}
 use Rattle.station.specs.Rows.{Acts, Objects, around}

@@ -11,6 +11,7 @@ use Rattle.station.specs.declared.statuses.Status.{Status}
 use Rattle.station.specs.declared.statuses.Status.TheVariants.{BadPages, BadSum, BadText, Done, FileFault, InputFault, LogonRefused, Memory, NotBlock, OutFault, Settings, SomeUnsent, TooLong, Usage, WireFault}
 use Rattle.station.specs.HeardFile.{HearsFile, file_bits}
 use Rattle.station.specs.Listening.{Listens}
+use Rattle.station.proofs.WellListened.{listened_well}
 
 -- the bits, holding these of others
 abbrev pub holding : List Held → Left Bool → Left Bool
@@ -36,8 +37,10 @@ listens_holding printed held a b o0 o FileFault h = record {
   failed = record { tells = h.failed.tells; left = h.failed.left; unsteady = h.failed.unsteady; faults = h.failed.faults; lent = refl };
   there = h.there;
   wrote = h.wrote;
+  few = h.few;
+  of_all = h.of_all;
 }
-listens_holding printed held a b o0 o OutFault h = record { bits = h.bits; took = took_holding held a b h.bits h.took; there = h.there; few = h.few; wrote = h.wrote }
+listens_holding printed held a b o0 o OutFault h = record { bits = h.bits; took = took_holding held a b h.bits h.took; there = h.there; few = h.few; wrote = h.wrote; of_all = h.of_all }
 listens_holding printed held a b o0 o Usage h = h
 listens_holding printed held a b o0 o Settings h = h
 listens_holding printed held a b o0 o WireFault h = h
@@ -84,13 +87,16 @@ pub hears_file : (printed : List Bool → List ℕ) (m n : GName) (name same the
     → HearsFile printed name old new o0 o status
 hears_file printed m n name same then ready later from at old now new o0 o status r f s e h =
     let k = kept printed (shelf_bits n same ready from now) (shelf_bits m then later at new) o0 o status h in
+    let rest = holding old.lent (shelf_bits m then later at new) in
+    let l : Listens printed (file_bits name old) rest o0 o status =
+    subst (λ (b : Left Bool). Listens printed b rest o0 o status) (fresh_bits n name same ready from old now r f s e) (listens_holding printed old.lent _ _ o0 o status h) in
     record {
-      rest = holding old.lent (shelf_bits m then later at new);
-      listens = subst (λ (b : Left Bool). Listens printed b (holding old.lent (shelf_bits m then later at new)) o0 o status)
-          (fresh_bits n name same ready from old now r f s e) (listens_holding printed old.lent _ _ o0 o status h);
+      rest = rest;
+      listens = l;
       faults = refl;
       steady = λ t. (and_both new.steady (new.there then) t).0;
       tells = k.0 ∙ ap (λ (x : Files). x.tells) e;
       files = ap (files_of old) k.1 ∙ ap all_files e;
       lent = ap (λ (held : List Held). drop 3 held) k.1 ∙ ap (λ (x : Files). x.lent) e;
+      out_well = listened_well printed (file_bits name old) rest o0 o status l;
     }

@@ -1,144 +1,30 @@
 -- What is printed of a front of bits is a front of what is printed of all.
-use Rattle.std.proofs.Common.{◌≡◌, ℕ, zero, suc, ◌+◌, ◌≤◌, ◌⊎◌, inl, inr, Bool, true, false, List, [], ◌∷◌, ◌++◌, append-nil, append_assoc, length, flat_map, Option, Some, None, refl, sym, ◌∙◌, ap, ap₂, subst, arith}
+use Rattle.std.proofs.Common.{◌≡◌, ℕ, ◌+◌, Bool, List, ◌++◌, ◌∙◌, ap}
 use Rattle.std.specs.Prelude.{map}
 use Rattle.std.proofs.lemmas.Grind.{flat_map-append}
-use Rattle.std.proofs.lemmas.List.{map-append}
-use Rattle.receiver.specs.Heard.{HeardPage, heard, pages_from, stretch_pages, with_text}
 use Rattle.page_text.specs.Page.{Page}
-use Rattle.receiver.specs.Listeners.{is_one_of}
-use Rattle.receiver.specs.Receivers.{is_paired}
-use Rattle.receiver.specs.Shown.{shown, shown_page}
-use Rattle.receiver.specs.Slots.{Batch, Entry, entries, entries_from, slots_of, stretch_entries}
-use Rattle.receiver.specs.Stretches.{after_loss, after_sync, held_from, held_with, held_words, is_sync, is_sync_place, later_with, loss_from, loss_with, stretches, stretches_with, words_of}
-use Rattle.receiver.proofs.Hunts.{short_finds}
-use Rattle.receiver.proofs.Locks.{held_from-whole, not_lost}
-use Rattle.receiver.proofs.Pages.{pages_from-push}
-use Rattle.receiver.proofs.Slots.{entries_from-push, slots_from-push}
-use Rattle.receiver.proofs.Stretches.{after_loss-append, after_sync-append, length-after_sync, stretches-is, words_of-append}
-use Rattle.station.proofs.Lists.{front_append, front_same, front_then, splice}
+use Rattle.receiver.specs.Growing.{Grows}
+use Rattle.receiver.specs.Heard.{heard, with_text}
+use Rattle.receiver.specs.Listeners.{Listener, is_one_of}
+use Rattle.receiver.specs.Receivers.{has_in, is_paired}
+use Rattle.receiver.specs.Shown.{shown}
+use Rattle.receiver.specs.Slots.{entries}
+use Rattle.receiver.proofs.Growing.{entries-grow, shown-grow}
 use Rattle.station.proofs.Tables.{entry_lines-append}
-use Rattle.station.specs.PageLines.{alone_from, lines_heard, play_lines, shown_line, shown_lines}
+use Rattle.station.specs.PageLines.{alone_from, group_lines, lines_heard, play_lines, shown_line, shown_lines}
 use Rattle.station.specs.Table.{batches_in, entry_lines, table_of}
-use Rattle.station.specs.Talk.{IsFront}
-
--- what a list gives begins with what each front of it gives
-abbrev pub Grows : {A B : Type 0} → (List A → List B) → Type 0
-Grows {A} f = (xs ys : List A) → IsFront (f xs) (f (xs ++ ys))
-
--- it does so where one more element does so
-grows_by_one : {A B : Type 0} (f : List A → List B) → ((xs : List A) (x : A) → IsFront (f xs) (f (xs ++ x ∷ []))) → Grows f
-grows_by_one f one xs [] = subst (λ (zs : List _). IsFront (f xs) (f zs)) (sym (append-nil xs)) (front_same (f xs))
-grows_by_one f one xs (y ∷ ys) =
-    subst (λ (zs : List _). IsFront (f xs) (f zs)) (splice xs y ys)
-    (front_then (f xs) (f (xs ++ y ∷ [])) (f ((xs ++ y ∷ []) ++ ys)) (one xs y) (grows_by_one f one (xs ++ y ∷ []) ys))
-
--- an equal list, and one that has a front more
-front_is : {A : Type 0} (a b more : List A) → b ≡ a ++ more → IsFront a b
-front_is a b more e = record { rest = more; is = e }
-
-front_behind : {A : Type 0} (c a b : List A) → IsFront a b → IsFront (c ++ a) (c ++ b)
-front_behind c a b h = record { rest = h.rest; is = ap (λ (z : List _). c ++ z) h.is ∙ sym (append_assoc c a h.rest) }
-
--- ---- the words of a lock
-
-option_cases : {A : Type 0} (o : Option A) → (o ≡ None) ⊎ ((x : A) × (o ≡ Some x))
-option_cases None = inl refl
-option_cases (Some x) = inr (x, refl)
-
--- a lock that isn't lost in these words holds them, and what it holds of more begins with them
-held_front : (k : ℕ) (ws vs : List ℕ) → loss_from k ws ≡ None → IsFront ws (held_from k (ws ++ vs))
-unfolding held_from loss_from
-held_front k [] vs h = record { rest = held_from k vs; is = refl }
-held_front k (w ∷ ws) vs h = goes (is_sync_place k) (is_sync w) (loss_from (suc k) ws) h (held_front (suc k) ws vs)
-  where
-    goes : (p g : Bool) (o : Option ℕ) → loss_with p g o ≡ None → (o ≡ None → IsFront ws (held_from (suc k) (ws ++ vs)))
-        → IsFront (w ∷ ws) (held_with p g w (held_from (suc k) (ws ++ vs)))
-    goes false g None e f = let r = f refl in record { rest = r.rest; is = ap (λ (zs : List ℕ). w ∷ zs) r.is }
-    goes false g (Some n) e f = absurd (let q : Some (suc n) ≡ None = e in cc)
-    goes true false o e f = absurd (let q : Some 1 ≡ None = e in cc)
-    goes true true None e f = let r = f refl in record { rest = r.rest; is = ap (λ (zs : List ℕ). w ∷ zs) r.is }
-    goes true true (Some n) e f = absurd (let q : Some (suc n) ≡ None = e in cc)
-
-held_words-front : (bits more : List Bool) → after_loss bits ≡ None → IsFront (held_words bits) (held_words (bits ++ more))
-held_words-front bits more none =
-    let l = not_lost bits none in
-    let w = words_of-append bits more in
-    let r : IsFront (words_of bits) (held_from 0 (words_of bits ++ w.0)) = held_front 0 (words_of bits) w.0 l in
-    record { rest = r.rest; is = ap (held_from 0) w.1 ∙ (r.is ∙ ap (λ (zs : List ℕ). zs ++ r.rest) (sym (held_from-whole 0 (words_of bits) l))) }
-
--- ---- the stretches
-
--- nothing is found
-none_found : {X : Type 0} (f : List ℕ → List X) (bits more : List Bool) → after_sync bits ≡ None → IsFront (flat_map f (stretches bits)) (flat_map f (stretches (bits ++ more)))
-none_found f bits more none =
-    let e : flat_map f (stretches bits) ≡ [] = ap (flat_map f) (stretches-is bits ∙ ap (stretches_with stretches) none) in
-    record { rest = flat_map f (stretches (bits ++ more)); is = ap (λ (zs : List _). zs ++ flat_map f (stretches (bits ++ more))) (sym e) }
-
--- what is put together of each stretch grows, where what a stretch gives grows
-stretches_grow : {X : Type 0} (f : List ℕ → List X) → Grows f → (n : ℕ) (bits more : List Bool) → length bits ≤ n
-    → IsFront (flat_map f (stretches bits)) (flat_map f (stretches (bits ++ more)))
-stretches_grow f g zero bits more le = none_found f bits more (short_finds bits (omega arith))
-stretches_grow f g (suc n) bits more le = elim (option_cases (after_sync bits)) [
-  | inl none ↦ none_found f bits more none
-  | inr found ↦
-      let rest = found.0 in
-      let short = length-after_sync bits rest found.1 in
-      let was : stretches bits ≡ held_words rest ∷ later_with stretches (after_loss rest) = stretches-is bits ∙ ap (stretches_with stretches) found.1 in
-      let now : stretches (bits ++ more) ≡ held_words (rest ++ more) ∷ later_with stretches (after_loss (rest ++ more)) =
-      stretches-is (bits ++ more) ∙ ap (stretches_with stretches) (after_sync-append bits more rest found.1) in
-      elim (option_cases (after_loss rest)) [
-        | inl whole ↦
-            let h = held_words-front rest more whole in
-            let e : flat_map f (stretches bits) ≡ f (held_words rest) =
-            ap (flat_map f) (was ∙ ap (λ (o : Option (List Bool)). held_words rest ∷ later_with stretches o) whole) ∙ append-nil (f (held_words rest)) in
-            let k : IsFront (f (held_words rest)) (f (held_words (rest ++ more))) = subst (λ (ws : List ℕ). IsFront (f (held_words rest)) (f ws)) (sym h.is) (g (held_words rest) h.rest) in
-            let all = front_then (f (held_words rest)) (f (held_words (rest ++ more))) (f (held_words (rest ++ more)) ++ flat_map f (later_with stretches (after_loss (rest ++ more)))) k
-            (front_append (f (held_words (rest ++ more))) (flat_map f (later_with stretches (after_loss (rest ++ more))))) in
-            subst (λ (zs : List _). IsFront zs (flat_map f (stretches (bits ++ more)))) (sym e) (subst (λ (zs : List _). IsFront (f (held_words rest)) zs) (ap (flat_map f) (sym now)) all)
-        | inr lost ↦
-            let left = lost.0 in
-            let on = after_loss-append rest more left lost.1 in
-            let e : flat_map f (stretches bits) ≡ f (held_words rest) ++ flat_map f (stretches left) =
-            ap (flat_map f) (was ∙ ap (λ (o : Option (List Bool)). held_words rest ∷ later_with stretches o) lost.1) in
-            let e2 : flat_map f (stretches (bits ++ more)) ≡ f (held_words rest) ++ flat_map f (stretches (left ++ more)) =
-            ap (flat_map f) (now ∙ ap₂ (λ (ws : List ℕ) (o : Option (List Bool)). ws ∷ later_with stretches o) on.1 on.0) in
-            let k = front_behind (f (held_words rest)) (flat_map f (stretches left)) (flat_map f (stretches (left ++ more))) (stretches_grow f g n left more (omega (arith, short, on.2, le))) in
-            subst (λ (zs : List _). IsFront zs (flat_map f (stretches (bits ++ more)))) (sym e) (subst (λ (zs : List _). IsFront (f (held_words rest) ++ flat_map f (stretches left)) zs) (sym e2) k)
-      ]
-]
-
--- ---- pages and entries of a stretch
-
-slots_grow : Grows slots_of
-slots_grow = grows_by_one slots_of (λ ws w. record { rest = _; is = slots_from-push 0 ws w })
-
-pages_grow : (listens : ℕ → Bool) → Grows (stretch_pages listens)
-pages_grow listens xs ys =
-    let s = slots_grow xs ys in
-    subst (λ (zs : List ℕ). IsFront (stretch_pages listens xs) (pages_from listens 0 zs)) (sym s.is)
-    (grows_by_one (pages_from listens 0) (λ ws w. record { rest = _; is = pages_from-push listens 0 ws w }) (slots_of xs) s.rest)
-
-entries_grow : Grows stretch_entries
-entries_grow xs ys =
-    let h : IsFront (entries_from 0 xs) (entries_from 0 (xs ++ ys)) = grows_by_one (entries_from 0) (λ ws w. record { rest = _; is = entries_from-push 0 ws w }) xs ys in
-    record { rest = h.rest; is = ap (λ (es : List Entry). Batch ∷ es) h.is }
-
--- ---- what is printed
-
-shown-append : (has : ℕ → ℕ → Bool) (xs ys : List Page) → shown_lines (shown has (xs ++ ys)) ≡ shown_lines (shown has xs) ++ shown_lines (shown has ys)
-shown-append has xs ys = ap shown_lines (flat_map-append (shown_page has) xs ys) ∙ flat_map-append shown_line (shown has xs) (shown has ys)
 
 -- what receivers print of bits begins with what they print of each front of them
 pub lines_heard-grow : (listens : ℕ → Bool) (has : ℕ → ℕ → Bool) → Grows (lines_heard listens has)
 lines_heard-grow listens has bits more =
-    let h = stretches_grow (stretch_pages listens) (pages_grow listens) (length bits) bits more (omega arith) in
+    let h = shown-grow listens has bits more in
     record {
-      rest = shown_lines (shown has (map with_text h.rest));
-      is =
-          ap (λ (pages : List HeardPage). shown_lines (shown has (map with_text pages))) h.is
-          ∙ (ap (λ (pages : List Page). shown_lines (shown has pages)) (map-append with_text (heard listens bits) h.rest)
-          ∙ shown-append has (map with_text (heard listens bits)) (map with_text h.rest));
+      rest = shown_lines h.rest;
+      is = ap shown_lines h.is ∙ flat_map-append shown_line (shown has (map with_text (heard listens bits))) h.rest;
     }
+
+pub group_lines-grow : (group : Listener) → Grows (group_lines group)
+group_lines-grow group = lines_heard-grow (is_one_of group.capcodes) (has_in group.holders)
 
 pub play_lines-grow : (capcodes : List ℕ) → Grows (play_lines capcodes)
 play_lines-grow capcodes = lines_heard-grow (is_one_of capcodes) (is_paired (alone_from 1 capcodes))
@@ -146,5 +32,5 @@ play_lines-grow capcodes = lines_heard-grow (is_one_of capcodes) (is_paired (alo
 -- and so does `show`
 pub table_of-grow : Grows table_of
 table_of-grow bits more =
-    let h = stretches_grow stretch_entries entries_grow (length bits) bits more (omega arith) in
+    let h = entries-grow bits more in
     record { rest = entry_lines (0 + batches_in (entries bits)) h.rest; is = ap (entry_lines 0) h.is ∙ entry_lines-append 0 (entries bits) h.rest }

@@ -56,6 +56,9 @@ pub mod CallsUp
 pub mod PagesRead
 pub mod Delivered
 pub mod HeardFronts
+pub mod Told
+pub mod TriedWell
+pub mod WellListened
 pub mod OneOutcomes
 pub mod OneAir
 pub mod OneBytes

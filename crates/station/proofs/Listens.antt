@@ -1,5 +1,7 @@
 -- Listening, piece by piece.
-use Rattle.std.proofs.Common.{◌≡◌, ◌≢◌, ℕ, ◌+◌, ◌^◌, ◌≤◌, ◌<◌, Bool, List, [], ◌∷◌, ◌++◌, length, length-append, Result, Ok, Err, Option, Some, None, refl, sym, ◌∙◌, ap, subst, arith, append-nil, append_assoc, IsTrue, ◌↔◌, false}
+use Rattle.std.proofs.Common.{◌≡◌, ◌≢◌, ℕ, ◌+◌, ◌-◌, ◌^◌, ◌≤◌, ◌<◌, Bool, List, [], ◌∷◌, ◌++◌, length, length-append, take, Result, Ok, Err, Option, Some, None, refl, sym, ◌∙◌, ap, subst, arith, append-nil, append_assoc, IsTrue, ◌↔◌, false}
+use Rattle.std.proofs.lemmas.List.{take-append-le}
+use Rattle.std.proofs.Math.Seq.{take-append-add}
 use Rattle.wires.specs.Causes.{Rose}
 use Rattle.wires.specs.Left.{Left, TakesOne, TakesPiece, Took}
 use Rattle.wires.specs.Pieces.{taken_of}
@@ -7,7 +9,7 @@ use Rattle.wires.specs.declared.Failed.{Failed}
 use Rattle.wires.specs.Written.{Written, Puts}
 use Rattle.wires.proofs.Left.{Took-nothing, Took-none, Took-one, Took-then}
 use Rattle.wires.proofs.Written.{no_ok, Puts-cut, Puts-nothing, Puts-then, still}
-use Rattle.station.proofs.HeardFronts.{Grows}
+use Rattle.receiver.specs.Growing.{Grows, IsFront}
 use Rattle.station.specs.Listening.{FailedAfter, ListenedToAll, ListenedToFault, ListenedTooLong, ListenedUnheard, ListeningTo, Prints, most_bits, put_of}
 use Rattle.station.specs.Wrote.{Wrote, WroteFront}
 
@@ -51,6 +53,36 @@ WroteFront-then {T} {E} a b c p q e h k = WroteFront-from_puts a c (p ++ q) e (P
 
 pub Wrote-nothing : {A : Type 0} (a : Written A) → Wrote a a []
 Wrote-nothing a = Wrote-from_puts {E = Unit {0}} a a [] (tt {0}) (Puts-nothing a (tt {0}))
+
+-- a front is no longer
+pub length-front : {A : Type 0} (p q : List A) → IsFront p q → length p ≤ length q
+length-front p q f = omega (arith, ap length f.is, length-append p f.rest)
+
+-- a front of a piece is a front of each piece that begins with it
+pub WroteFront-longer : {A : Type 0} (a b : Written A) (p q : List A) → WroteFront a b p → IsFront p q → WroteFront a b q
+WroteFront-longer a b p q h f = record {
+  tells = h.tells;
+  held = λ t.
+      let k = h.held t in (
+        k.0,
+        omega (arith, k.1, length-front p q f),
+        k.2 ∙ ap (λ (xs : List _). a.held ++ xs) (sym (ap (take k.0) f.is ∙ take-append-le k.0 p f.rest k.1)),
+      );
+  room = h.room;
+  unfit = λ t s fits. h.unfit t s (omega (arith, fits, length-front p q f));
+  faults = h.faults;
+  lent = h.lent;
+}
+
+-- what the bits that were read give is a front of what all give that are to be listened to
+pub front_listened : (printed : List Bool → List ℕ) → Grows printed → (bits left all : List Bool) → all ≡ bits ++ left → length bits ≤ most_bits
+    → IsFront (printed bits) (printed (take most_bits all))
+front_listened printed g bits left all is few =
+    let more = take (most_bits - length bits) left in
+    let n : length bits + (most_bits - length bits) ≡ most_bits = omega (arith, few) in
+    let cut : bits ++ more ≡ take most_bits all =
+    sym (take-append-add bits left (most_bits - length bits)) ∙ (ap (λ (k : ℕ). take k (bits ++ left)) n ∙ ap (take most_bits) (sym is)) in
+    subst (λ (z : List Bool). IsFront (printed bits) (printed z)) cut (g bits more)
 
 pub some_long : (bits : List Bool) → bits ≢ [] → 0 < length bits
 some_long [] h = absurd (h refl)
@@ -245,8 +277,8 @@ failed_one {E} a b e t = record {
 }
 
 pub heard_no_more : (printed : List Bool → List ℕ) (b0 b1 b2 : Left Bool) (o0 o : Written ℕ) (n : ℕ)
-    → ListeningTo printed b0 b1 o0 o n → FailedAfter b1 b2 [] → ListenedToFault printed b0 b2 o0 o
-heard_no_more printed b0 b1 b2 o0 o n h f = record {
+    → Grows printed → ListeningTo printed b0 b1 o0 o n → FailedAfter b1 b2 [] → ListenedToFault printed b0 b2 o0 o
+heard_no_more printed b0 b1 b2 o0 o n g h f = record {
   bits = h.bits;
   failed = record {
     tells = f.tells ∙ h.took.tells;
@@ -257,19 +289,29 @@ heard_no_more printed b0 b1 b2 o0 o n h f = record {
   };
   there = λ k some. h.there k (some_long h.bits some);
   wrote = h.wrote;
+  few = omega (arith, h.many);
+  of_all = λ k.
+      front_listened printed g h.bits b2.left b0.left (h.took.left k ∙ ap (λ (rest : List Bool). h.bits ++ rest) (f.left (still h.took.tells k))) (omega (arith, h.many));
 }
 
 -- a write failed
 pub heard_unprinted : {E T F : Type 0} (printed : List Bool → List ℕ) (b0 b1 b2 : Left Bool) (o0 o1 o2 : Written ℕ) (n most : ℕ) (piece : List Bool) (e : F)
-    → (h : ListeningTo printed b0 b1 o0 o1 n) → TakesPiece {E = E} most b1 b2 (Ok piece) → length piece ≤ n → Prints {T = T} printed h.bits piece o1 o2 (Err e)
+    → Grows printed → (h : ListeningTo printed b0 b1 o0 o1 n) → TakesPiece {E = E} most b1 b2 (Ok piece) → length piece ≤ n → Prints {T = T} printed h.bits piece o1 o2 (Err e)
     → ListenedUnheard printed b0 b2 o0 o2
-heard_unprinted printed b0 b1 b2 o0 o1 o2 n most piece e h taken few p = record {
-  bits = h.bits ++ piece;
-  took = Took-then b0 b1 b2 h.bits piece h.took (Took-piece most b1 b2 piece taken);
-  there = λ k. h.took.there k (taken.came (still h.took.tells k));
-  few = omega (arith, length-append h.bits piece, h.many, few);
-  wrote = subst (λ (said : List ℕ). WroteFront o0 o2 said) (sym p.more) (WroteFront-then o0 o1 o2 (printed h.bits) p.piece e h.wrote p.put);
-}
+heard_unprinted printed b0 b1 b2 o0 o1 o2 n most piece e g h taken fits p =
+    let took = Took-then b0 b1 b2 h.bits piece h.took (Took-piece most b1 b2 piece taken) in
+    let few : length (h.bits ++ piece) ≤ most_bits = omega (arith, length-append h.bits piece, h.many, fits) in
+    let wrote : WroteFront o0 o2 (printed (h.bits ++ piece)) =
+    subst (λ (said : List ℕ). WroteFront o0 o2 said) (sym p.more) (WroteFront-then o0 o1 o2 (printed h.bits) p.piece e h.wrote p.put) in
+    record {
+      bits = h.bits ++ piece;
+      took = took;
+      there = λ k. h.took.there k (taken.came (still h.took.tells k));
+      few = few;
+      wrote = wrote;
+      of_all = λ k.
+          WroteFront-longer o0 o2 (printed (h.bits ++ piece)) (printed (take most_bits b0.left)) wrote (front_listened printed g (h.bits ++ piece) b2.left b0.left (took.left k) few);
+    }
 
 -- a piece that isn't empty has a bit
 pub not_empty : (piece : List Bool) (empty : Bool) → empty ≡ false → (IsTrue empty ↔ (piece ≡ [])) → 0 < length piece

@@ -1,19 +1,7 @@
 -- Fronts of lists, and facts of each element.
-use Rattle.std.proofs.Common.{◌≡◌, List, [], ◌∷◌, ◌++◌, append-nil, append_assoc, refl, sym, ◌∙◌, ap}
+use Rattle.std.proofs.Common.{◌≡◌, List, [], ◌∷◌, ◌++◌, append_assoc, ◌∙◌, ap}
 use Rattle.std.specs.List.{AllByRecursion}
-use Rattle.station.specs.Talk.{IsFront}
-
--- a list is a front of itself
-pub front_same : {A : Type 0} (a : List A) → IsFront a a
-front_same a = record { rest = []; is = sym (append-nil a) }
-
--- and of a longer one
-pub front_append : {A : Type 0} (a b : List A) → IsFront a (a ++ b)
-front_append a b = record { rest = b; is = refl }
-
--- a front of a front
-pub front_then : {A : Type 0} (a b c : List A) → IsFront a b → IsFront b c → IsFront a c
-front_then a b c h k = record { rest = h.rest ++ k.rest; is = k.is ∙ (ap (λ (z : List _). z ++ k.rest) h.is ∙ append_assoc a h.rest k.rest) }
+pub use Rattle.receiver.proofs.Growing.{front_append, front_same, front_then, splice}
 
 -- a fact of the elements of two lists
 pub all-append : {A : Type 0} (P : A → Type 0) (a b : List A) → AllByRecursion P a → AllByRecursion P b → AllByRecursion P (a ++ b)
@@ -24,10 +12,6 @@ all-append P (x ∷ a) b h k = (h.0, all-append P a b h.1 k)
 pub all-map : {A : Type 0} (P Q : A → Type 0) → ((x : A) → P x → Q x) → (a : List A) → AllByRecursion P a → AllByRecursion Q a
 all-map P Q f [] h = tt
 all-map P Q f (x ∷ a) h = (f x h.0, all-map P Q f a h.1)
-
--- one element from the front of the second list to the end of the first
-pub splice : {A : Type 0} (a : List A) (x : A) (b : List A) → (a ++ x ∷ []) ++ b ≡ a ++ x ∷ b
-splice a x b = append_assoc a (x ∷ []) b
 
 -- two lists appended one after the other
 pub appended_then : {A : Type 0} (a b c p q : List A) → b ≡ a ++ p → c ≡ b ++ q → c ≡ a ++ (p ++ q)

@@ -1,9 +1,7 @@
 -- What `play` and `show` come to where no call fails.
-use Rattle.std.proofs.Common.{◌≡◌, ◌≢◌, ℕ, ◌+◌, ◌-◌, ◌<◌, ◌≤◌, Bool, List, [], ◌∷◌, ◌++◌, append-nil, append_assoc, length, length-append, take, IsTrue, refl, sym, ◌∙◌, ap, arith}
+use Rattle.std.proofs.Common.{◌≡◌, ◌≢◌, ℕ, ◌+◌, ◌<◌, ◌≤◌, Bool, List, [], ◌∷◌, ◌++◌, append-nil, append_assoc, length, length-append, take, IsTrue, refl, sym, ◌∙◌, ap, arith}
 use Rattle.std.specs.Prelude.{if◌then◌else◌, nat_le}
 use Rattle.std.proofs.lemmas.Bool.{le-leb, lt-leb}
-use Rattle.std.proofs.lemmas.List.{take_all}
-use Rattle.std.proofs.Math.Seq.{take-append_seam, take-append-add}
 use Rattle.bits.specs.Bits.{bytes_bits}
 use Rattle.wires.proofs.Written.{and_one}
 use Rattle.wires.specs.Files.{Files}
@@ -13,10 +11,11 @@ use Rattle.station.specs.declared.statuses.Status.{Status}
 use Rattle.station.specs.declared.statuses.Status.TheVariants.{Done, FileFault, Memory, OutFault, TooLong}
 use Rattle.station.specs.HeardFile.{HearsFile, Plays, file_bits}
 use Rattle.station.specs.Listening.{Listens, most_bits}
-use Rattle.station.specs.OneOutcome.{FitFile, FitFor, OnePlay, OneShow, SameOutcome, bits_listened}
+use Rattle.station.specs.OneOutcome.{FitFile, OnePlay, OneShow, SameOutcome, bits_listened}
 use Rattle.station.specs.PageLines.{play_lines}
 use Rattle.station.specs.Table.{table_of}
-use Rattle.station.proofs.HeardFronts.{Grows, play_lines-grow, table_of-grow}
+use Rattle.station.specs.Wrote.{FitFor}
+use Rattle.station.proofs.WellListened.{read_first, read_whole}
 
 -- the status, where so many bits are to be listened to
 abbrev status_of : ℕ → Status
@@ -27,35 +26,25 @@ pub record ComesTo (printed : List Bool → List ℕ) (bits : List Bool) (out0 o
   pub status_is : status ≡ status_of (length bits)
   pub held : out.held ≡ out0.held ++ printed (take most_bits bits)
 
-comes_to : (printed : List Bool → List ℕ) (old new : Left Bool) (out0 out : Written ℕ) (status : Status) → Grows printed → IsTrue old.tells → IsTrue old.steady → FitFor out0 (printed (take most_bits old.left))
+comes_to : (printed : List Bool → List ℕ) (old new : Left Bool) (out0 out : Written ℕ) (status : Status) → IsTrue old.tells → IsTrue old.steady → FitFor out0 (printed (take most_bits old.left))
     → Listens printed old new out0 out status → ComesTo printed old.left out0 out status
-comes_to printed old new out0 out Done g t s fit h =
+comes_to printed old new out0 out Done t s fit h =
     let all : old.left ≡ h.bits = h.took.left t ∙ (ap (λ (z : List Bool). h.bits ++ z) (h.whole t) ∙ append-nil h.bits) in
     let few : length old.left ≤ most_bits = omega (arith, h.few, ap length all) in
     record {
       status_is = ap (λ (b : Bool). if b then Done else TooLong) (sym (le-leb (length old.left) most_bits few));
-      held = h.wrote.held fit.tells ∙ ap (λ (z : List Bool). out0.held ++ printed z) (sym all ∙ sym (take_all most_bits old.left few));
+      held = h.wrote.held fit.tells ∙ ap (λ (z : List Bool). out0.held ++ printed z) (sym (read_whole printed old new out0 out h t));
     }
-comes_to printed old new out0 out TooLong g t s fit h =
+comes_to printed old new out0 out TooLong t s fit h =
     let all : old.left ≡ h.bits ++ (h.further ∷ new.left) = h.took.left t ∙ append_assoc h.bits (h.further ∷ []) new.left in
     let long : most_bits < length old.left = omega (arith, h.many, ap length all, length-append h.bits (h.further ∷ new.left)) in
     record {
       status_is = ap (λ (b : Bool). if b then Done else TooLong) (sym (lt-leb (length old.left) most_bits long));
-      held =
-          h.wrote.held fit.tells
-          ∙ ap (λ (z : List Bool). out0.held ++ printed z)
-          (sym (take-append_seam h.bits (h.further ∷ new.left)) ∙ (ap (λ (n : ℕ). take n (h.bits ++ (h.further ∷ new.left))) h.many ∙ ap (take most_bits) (sym all)));
+      held = h.wrote.held fit.tells ∙ ap (λ (z : List Bool). out0.held ++ printed z) (sym (read_first printed old new out0 out h t));
     }
-comes_to printed old new out0 out FileFault g t s fit h = absurd (h.failed.unsteady t s)
-comes_to printed old new out0 out OutFault g t s fit h =
-    let more = take (most_bits - length h.bits) new.left in
-    let n : length h.bits + (most_bits - length h.bits) ≡ most_bits = omega (arith, h.few) in
-    let cut : h.bits ++ more ≡ take most_bits old.left =
-    sym (take-append-add h.bits new.left (most_bits - length h.bits)) ∙ (ap (λ (k : ℕ). take k (h.bits ++ new.left)) n ∙ ap (take most_bits) (sym (h.took.left t))) in
-    let front = g h.bits more in
-    let whole : printed (take most_bits old.left) ≡ printed h.bits ++ front.rest = ap printed (sym cut) ∙ front.is in
-    absurd (h.wrote.unfit fit.tells fit.steady (omega (arith, fit.room, ap length whole, length-append (printed h.bits) front.rest)))
-comes_to printed old new out0 out other g t s fit h = elim h [ ]
+comes_to printed old new out0 out FileFault t s fit h = absurd (h.failed.unsteady t s)
+comes_to printed old new out0 out OutFault t s fit h = absurd ((h.of_all t).unfit fit.tells fit.steady fit.room)
+comes_to printed old new out0 out other t s fit h = elim h [ ]
 
 -- two that come to the same
 same : (printed : List Bool → List ℕ) (bits : List Bool) (out0 out out2 : Written ℕ) (status another : Status) → ComesTo printed bits out0 out status → ComesTo printed bits out0 out2 another
@@ -63,10 +52,10 @@ same : (printed : List Bool → List ℕ) (bits : List Bool) (out0 out out2 : Wr
 same printed bits out0 out out2 status another h k = record { ends_alike = k.status_is ∙ sym h.status_is; makes_alike = k.held ∙ sym h.held }
 
 -- hearing a file comes to what listening to its bits does
-file_comes_to : (printed : List Bool → List ℕ) (name : List ℕ) (old new : Files) (out0 out : Written ℕ) (status : Status) → Grows printed → FitFile name old → FitFor out0 (printed (bits_listened name old))
+file_comes_to : (printed : List Bool → List ℕ) (name : List ℕ) (old new : Files) (out0 out : Written ℕ) (status : Status) → FitFile name old → FitFor out0 (printed (bits_listened name old))
     → HearsFile printed name old new out0 out status → ComesTo printed (bytes_bits (old.file name)) out0 out status
-file_comes_to printed name old new out0 out status g file fit h =
-    comes_to printed (file_bits name old) h.rest out0 out status g file.tells (and_one old.steady (old.there name) file.steady file.there) fit h.listens
+file_comes_to printed name old new out0 out status file fit h =
+    comes_to printed (file_bits name old) h.rest out0 out status file.tells (and_one old.steady (old.there name) file.steady file.there) fit h.listens
 
 had_memory : (printed : List Bool → List ℕ) (name : List ℕ) (old new : Files) (out0 out : Written ℕ) (status : Status) → status ≢ Memory → Plays printed name old new out0 out status
     → HearsFile printed name old new out0 out status
@@ -78,11 +67,11 @@ one_play capcodes air old new other status another file fit h k some some2 =
     let a = had_memory (play_lines capcodes) air old.shelf new.shelf old.streams.out new.streams.out status some h.row in
     let b = had_memory (play_lines capcodes) air old.shelf other.shelf old.streams.out other.streams.out another some2 k.row in
     same (play_lines capcodes) (bytes_bits (old.shelf.file air)) old.streams.out new.streams.out other.streams.out status another
-    (file_comes_to (play_lines capcodes) air old.shelf new.shelf old.streams.out new.streams.out status (play_lines-grow capcodes) file fit a)
-    (file_comes_to (play_lines capcodes) air old.shelf other.shelf old.streams.out other.streams.out another (play_lines-grow capcodes) file fit b)
+    (file_comes_to (play_lines capcodes) air old.shelf new.shelf old.streams.out new.streams.out status file fit a)
+    (file_comes_to (play_lines capcodes) air old.shelf other.shelf old.streams.out other.streams.out another file fit b)
 
 pub one_show : OneShow
 one_show air old new other status another file fit h k =
     same table_of (bytes_bits (old.shelf.file air)) old.streams.out new.streams.out other.streams.out status another
-    (file_comes_to table_of air old.shelf new.shelf old.streams.out new.streams.out status table_of-grow file fit h.row)
-    (file_comes_to table_of air old.shelf other.shelf old.streams.out other.streams.out another table_of-grow file fit k.row)
+    (file_comes_to table_of air old.shelf new.shelf old.streams.out new.streams.out status file fit h.row)
+    (file_comes_to table_of air old.shelf other.shelf old.streams.out other.streams.out another file fit k.row)

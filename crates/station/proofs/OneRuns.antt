@@ -8,8 +8,8 @@ use Rattle.station.specs.declared.outcomes.Outcome.TheVariants.{Ended, Misread, 
 use Rattle.station.specs.declared.statuses.Status.{Status}
 use Rattle.station.specs.declared.statuses.Status.TheVariants.{BadPages, Done, Memory, OutFault, Settings}
 use Rattle.station.specs.Commands.{Command, One, Play, Send, Show, Station, Trial}
-use Rattle.station.specs.OneRun.{FitRun, MadeAlike, OneRun, line_about}
-use Rattle.station.specs.Outcomes.{Tells, TellsMisread, TellsOutcome, TellsRefusal, pages_line, settings_line}
+use Rattle.station.specs.OneRun.{FitRun, MadeAlike, OneRun}
+use Rattle.station.specs.Outcomes.{Tells, TellsMisread, TellsOutcome, TellsRefusal, line_about, pages_line, settings_line}
 use Rattle.station.specs.Rows.{Acts, Came, Objects}
 use Rattle.station.specs.Statuses.{line_of}
 use Rattle.station.proofs.OneCommands.{one_command}

@@ -31,61 +31,28 @@ use Rattle.station.specs.Rows.{Streams}
 use Rattle.station.specs.Sessions.{SessionOf}
 use Rattle.station.specs.StationRows.{TrialRow, TriedBy}
 use Rattle.station.specs.Trying.{TriedAll, Tries, trial_lines}
-use Rattle.station.proofs.HeardFronts.{Grows, play_lines-grow}
 use Rattle.station.proofs.OneAir.{one_air}
 use Rattle.station.proofs.OneSettings.{ok_and_err, one_err, one_ok}
 use Rattle.station.proofs.Trials.{air_of}
-
--- how long what a trial prints is
-length-trial_lines : (printed : List Bool → List ℕ) (session : Session) (bits : List Bool)
-    → length (trial_lines printed session bits) ≡ length (answer_lines session.answers) + length (codes "---\n") + length (printed bits)
-length-trial_lines printed session bits =
-    length-append (answer_lines session.answers ++ codes "---\n") (printed bits) ∙ ap (λ (n : ℕ). n + length (printed bits)) (length-append (answer_lines session.answers) (codes "---\n"))
-
--- the lines of the answers to a front are no longer
-short_answers : (settings : Parts) (spare : ℕ) (x rest : List ℕ) (front whole : Session) → SessionOf settings spare x front → SessionOf settings spare (x ++ rest) whole
-    → length (answer_lines front.answers) ≤ length (answer_lines whole.answers)
-short_answers settings spare x rest front whole h k =
-    let more = fronts settings.password (directory_of settings) spare (characters x) (characters rest) front whole h
-    (subst (λ (z : List ℕ). IsSession settings.password (directory_of settings) spare z whole) (map-append char_of x rest) k) in
-    let e : answer_lines whole.answers ≡ answer_lines front.answers ++ answer_lines more.answers = ap answer_lines more.answers_are ∙ flat_map-append answer_line front.answers more.answers in
-    omega (arith, ap length e, length-append (answer_lines front.answers) (answer_lines more.answers))
+use Rattle.station.proofs.TriedWell.{tried_well}
 
 -- the room for the lines of a trial
 abbrev Room : Parts → ℕ → (List Bool → List ℕ) → List ℕ → List Bool → ℕ → Type 0
 Room settings spare printed input noise room = (session : Session) (air : List Bool) → SessionOf settings spare input session → IsAir session.pages air → length (trial_lines printed session (noisy_bits air noise)) ≤ room
 
 -- a trial over fit objects comes to Done
-tries_done : (settings : Parts) (spare : ℕ) (printed : List Bool → List ℕ) (input0 input : Left ℕ) (noise0 noise : Left Bool) (out0 out : Written ℕ) (status : Status) → Grows printed
+tries_done : (settings : Parts) (spare : ℕ) (printed : List Bool → List ℕ) (input0 input : Left ℕ) (noise0 noise : Left Bool) (out0 out : Written ℕ) (status : Status)
     → IsTrue input0.tells → IsTrue input0.steady → IsTrue noise0.tells → IsTrue noise0.steady → IsTrue out0.tells → IsTrue out0.steady → Room settings spare printed input0.left noise0.left out0.room
     → Tries settings spare printed input0 input noise0 noise out0 out status → (status ≡ Done) × TriedAll settings spare printed input0 input noise0 noise out0 out
-tries_done settings spare printed input0 input noise0 noise out0 out Done g it is nt ns ot os room h = (refl, h)
-tries_done settings spare printed input0 input noise0 noise out0 out FileFault g it is nt ns ot os room h = absurd (h.failed.unsteady nt ns)
-tries_done settings spare printed input0 input noise0 noise out0 out InputFault g it is nt ns ot os room h = absurd (h.broken.unsteady it is)
-tries_done settings spare printed input0 input noise0 noise out0 out OutFault g it is nt ns ot os room (inl h) =
-    let u = h.unprinted in
-    let all : input0.left ≡ u.fed ++ ((u.fed_is).rest ++ input.left) =
-    u.took.left it ∙ (ap (λ (z : List ℕ). z ++ input.left) (u.fed_is).is ∙ append_assoc u.fed (u.fed_is).rest input.left) in
+tries_done settings spare printed input0 input noise0 noise out0 out Done it is nt ns ot os room h = (refl, h)
+tries_done settings spare printed input0 input noise0 noise out0 out FileFault it is nt ns ot os room h = absurd (h.failed.unsteady nt ns)
+tries_done settings spare printed input0 input noise0 noise out0 out InputFault it is nt ns ot os room h = absurd (h.broken.unsteady it is)
+tries_done settings spare printed input0 input noise0 noise out0 out OutFault it is nt ns ot os room h =
     let whole = session_exists settings.password (directory_of settings) spare (characters input0.left) in
     let air = air_of (whole.0).pages in
-    let short = short_answers settings spare u.fed ((u.fed_is).rest ++ input.left) u.session whole.0 u.session_is (subst (λ (z : List ℕ). SessionOf settings spare z whole.0) all whole.1) in
-    absurd (u.wrote.unfit ot os (omega (arith, short, room whole.0 air.0 whole.1 air.1, length-trial_lines printed whole.0 (noisy_bits air.0 noise0.left))))
-tries_done settings spare printed input0 input noise0 noise out0 out OutFault g it is nt ns ot os room (inr h) =
-    let t = h.tried in
-    let more = noisy_bits h.rest (drop (length h.heard) noise0.left) in
-    let bits : noisy_bits t.air noise0.left ≡ noisy_bits h.heard h.flips ++ more =
-    ap (λ (z : List Bool). noisy_bits z noise0.left) h.air_is ∙ (noisy_bits-append h.heard h.rest noise0.left ∙ ap (λ (z : List Bool). z ++ more) (sym (h.of_noise nt))) in
-    let front = g (noisy_bits h.heard h.flips) more in
-    let text : printed (noisy_bits t.air noise0.left) ≡ printed (noisy_bits h.heard h.flips) ++ front.rest = ap printed bits ∙ front.is in
-    absurd (h.wrote.unfit ot os (omega (
-      arith,
-      room t.session t.air (t.of_all it) t.is_air,
-      length-trial_lines printed t.session (noisy_bits t.air noise0.left),
-      length-trial_lines printed t.session (noisy_bits h.heard h.flips),
-      ap length text,
-      length-append (printed (noisy_bits h.heard h.flips)) front.rest,
-    )))
-tries_done settings spare printed input0 input noise0 noise out0 out other g it is nt ns ot os room h = elim h [ ]
+    let well = tried_well settings spare printed input0 input noise0 noise out0 out OutFault h it nt whole.0 air.0 whole.1 air.1 (record { tells = ot; steady = os; room = room whole.0 air.0 whole.1 air.1 }) in
+    absurd (well.0 refl)
+tries_done settings spare printed input0 input noise0 noise out0 out other it is nt ns ot os room h = elim h [ ]
 
 -- The settings were read, and all lines of the trial were printed.
 pub record IsTried (settings noise capcodes : List ℕ) (shelf : Files) (streams : Streams) (out : Written ℕ) (outcome : Outcome) : Type 0 where
@@ -117,7 +84,7 @@ is_tried settings noise capcodes shelf new streams input out status fit h =
     let tells : IsTrue (h.tried.bits).tells = still b.tells (still h.read.unharmed.kept.tells fit.tells) in
     let room : Room h.parts h.parts.cells (play_lines capcodes) streams.input.left (h.tried.bits).left streams.out.room =
     subst (λ (z : List Bool). Room h.parts h.parts.cells (play_lines capcodes) streams.input.left z streams.out.room) (sym file) (fit.room h.parts are) in
-    let d = tries_done h.parts h.parts.cells (play_lines capcodes) streams.input input h.tried.bits h.tried.rest streams.out out status (play_lines-grow capcodes)
+    let d = tries_done h.parts h.parts.cells (play_lines capcodes) streams.input input h.tried.bits h.tried.rest streams.out out status
     fit.input_tells fit.input_steady tells steady fit.out_tells fit.out_steady room h.tried.tries in
     let t = d.1.tried in
     record {

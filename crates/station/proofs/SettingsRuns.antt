@@ -16,6 +16,7 @@ use Rattle.station.specs.ReadFile.{ReadSettings}
 use Rattle.station.specs.Serving.{Around, HasServed}
 use Rattle.station.specs.StationRows.{AreFileBits, ServedBy, StationRow, TrialRow, TriedBy, TriesFile, with_shelf}
 use Rattle.station.specs.Trying.{Tries}
+use Rattle.station.proofs.TriedWell.{tried_well}
 
 -- connections were served by settings
 served_by : (address settings air : List ℕ) (count : ℕ) (old new : Around) (parts s : Parts) (shelf : Files) (n : ℕ) (status : Status) → s ≡ parts → n ≡ parts.cells
@@ -99,6 +100,7 @@ tries_file parts spare printed m n name same then ready later from at i0 i old n
       };
       faults = refl;
       steady = λ t. (and_both new.steady (new.there then) t).0;
+      out_well = tried_well parts spare printed i0 i (shelf_bits n same ready from now) (shelf_bits m then later at new) o0 o status h;
     }
 
 -- the session of an input was tried by settings

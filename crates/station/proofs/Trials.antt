@@ -1,31 +1,40 @@
 -- A trial, from the answers and from what is heard.
-use Rattle.std.proofs.Common.{◌≡◌, inr, ℕ, Bool, List, [], ◌∷◌, ◌++◌, append-nil, append_assoc, length, length-append, take, map, ◌+◌, arith, Ok, Err, refl, sym, ◌∙◌, ap, subst}
+use Rattle.std.proofs.Common.{◌≡◌, inr, ℕ, Bool, List, [], ◌∷◌, ◌++◌, append-nil, append_assoc, drop, length, length-append, take, map, ◌+◌, arith, Ok, Err, refl, sym, ◌∙◌, ap, subst}
 use Rattle.std.specs.Prelude.{codes}
 use Rattle.bits.specs.Bits.{words_bits}
 use Rattle.page_text.specs.Page.{Page}
 use Rattle.page_pool.specs.Pool.{Live, Pool, pages}
 use Rattle.scheduler.proofs.Schedules.{one_schedule}
 use Rattle.air.specs.Air.{IsAir, transmission}
+use Rattle.receiver.specs.Growing.{Grows, IsFront}
+use Rattle.receiver.proofs.Growing.{front_behind}
+use Rattle.subscribers.specs.Directory.{directory_of}
 use Rattle.subscribers.specs.Parts.{Parts}
+use Rattle.tap_block.specs.Chars.{char_of, characters}
 use Rattle.tap_terminal.specs.Desk.{Desk}
-use Rattle.tap_terminal.specs.Session.{Session}
+use Rattle.tap_terminal.specs.Session.{IsSession, Session}
+use Rattle.tap_terminal.proofs.Fronts.{fronts}
 use Rattle.wires.specs.declared.Failed.{Failed}
 use Rattle.wires.specs.Left.{Left}
 use Rattle.wires.specs.Stacked.{noisy_bits}
 use Rattle.wires.specs.Written.{Puts, Written}
+use Rattle.std.proofs.lemmas.Grind.{flat_map-append}
+use Rattle.std.proofs.lemmas.List.{map-append}
 use Rattle.std.proofs.Math.Seq.{take-append-add}
 use Rattle.wires.specs.Causes.{Rose}
 use Rattle.wires.proofs.Left.{Took-nothing}
+use Rattle.wires.proofs.Noise.{noisy_bits-append}
 use Rattle.wires.proofs.Written.{still}
 use Rattle.station.specs.declared.statuses.Status.{Status}
 use Rattle.station.specs.declared.statuses.Status.TheVariants.{BadPages, BadSum, BadText, Done, FileFault, InputFault, LogonRefused, Memory, NotBlock, OutFault, Settings, SomeUnsent, TooLong, Usage, WireFault}
-use Rattle.station.specs.Answering.{AnsweredInput, LeavesSession}
-use Rattle.station.specs.Answers.{answer_lines}
+use Rattle.station.specs.Answering.{AnsweredBroken, AnsweredInput, AnsweredUnprinted, LeavesSession}
+use Rattle.station.specs.Answers.{answer_line, answer_lines}
 use Rattle.station.specs.Leaves.{HasTried, HearingLeaves, LeavesAccepted, WasLast}
 use Rattle.station.specs.Noise.{ListensThrough}
-use Rattle.station.specs.Trying.{HearsPages, TriedFront, TriedSession, Tries}
+use Rattle.station.specs.Sessions.{SessionOf}
+use Rattle.station.specs.Trying.{HearsPages, TriedAnswers, TriedFront, TriedInput, TriedSession, Tries, trial_lines}
 use Rattle.station.specs.Wrote.{Wrote, WroteFront}
-use Rattle.station.proofs.Listens.{Puts-from_wrote, Wrote-then, WroteFront-then}
+use Rattle.station.proofs.Listens.{Puts-from_wrote, Wrote-then, WroteFront-longer, WroteFront-then}
 use Rattle.station.proofs.NoisyHeard.{through_all, through_begins}
 
 -- each list of pages has a transmission
@@ -73,6 +82,50 @@ front_more a b c p q h k = record {
   lent = k.lent ∙ h.lent;
 }
 
+-- the answers to a front are a front of the answers
+pub front_answers : (settings : Parts) (spare : ℕ) (x rest : List ℕ) (front whole : Session) → SessionOf settings spare x front → SessionOf settings spare (x ++ rest) whole
+    → IsFront (answer_lines front.answers) (answer_lines whole.answers)
+front_answers settings spare x rest front whole h k =
+    let more = fronts settings.password (directory_of settings) spare (characters x) (characters rest) front whole h
+    (subst (λ (z : List ℕ). IsSession settings.password (directory_of settings) spare z whole) (map-append char_of x rest) k) in
+    record { rest = answer_lines more.answers; is = ap answer_lines more.answers_are ∙ flat_map-append answer_line front.answers more.answers }
+
+-- what is printed of the bits that were heard is a front of what is printed of all
+front_noisy : (printed : List Bool → List ℕ) → Grows printed → (bits heard rest noise all : List Bool) → bits ≡ heard ++ rest → noisy_bits heard noise ≡ noisy_bits heard all
+    → IsFront (printed (noisy_bits heard noise)) (printed (noisy_bits bits all))
+front_noisy printed g bits heard rest noise all is of_noise =
+    let more = noisy_bits rest (drop (length heard) all) in
+    let e : noisy_bits heard noise ++ more ≡ noisy_bits bits all =
+    ap (λ (z : List Bool). z ++ more) of_noise ∙ (sym (noisy_bits-append heard rest all) ∙ ap (λ (z : List Bool). noisy_bits z all) (sym is)) in
+    subst (λ (z : List Bool). IsFront (printed (noisy_bits heard noise)) (printed z)) e (g (noisy_bits heard noise) more)
+
+front_trial : (printed : List Bool → List ℕ) → Grows printed → (session : Session) (bits heard rest noise all : List Bool) → bits ≡ heard ++ rest → noisy_bits heard noise ≡ noisy_bits heard all
+    → IsFront (trial_lines printed session (noisy_bits heard noise)) (trial_lines printed session (noisy_bits bits all))
+front_trial printed g session bits heard rest noise all is of_noise =
+    front_behind (answer_lines session.answers ++ codes "---\n") (printed (noisy_bits heard noise)) (printed (noisy_bits bits all)) (front_noisy printed g bits heard rest noise all is of_noise)
+
+-- a read of the input failed
+pub tries_broken : (settings : Parts) (spare : ℕ) (i0 i : Left ℕ) (n : Left Bool) (o0 o : Written ℕ) → AnsweredBroken settings spare i0 i o0 o → TriedInput settings spare i0 i n n o0 o
+tries_broken settings spare i0 i n o0 o h = record {
+  broken = h;
+  noise_is = refl;
+  of_all = λ t session is. front_answers settings spare h.taken i.left h.session session h.session_is (subst (λ (z : List ℕ). SessionOf settings spare z session) (h.left t) is);
+}
+
+-- an answer couldn't be printed
+pub tries_unanswered : (settings : Parts) (spare : ℕ) (i0 i : Left ℕ) (n : Left Bool) (o0 o : Written ℕ) (taken : List ℕ) → AnsweredUnprinted settings spare i0 i o0 o taken
+    → TriedAnswers settings spare i0 i n n o0 o
+tries_unanswered settings spare i0 i n o0 o taken h = record {
+  taken = taken;
+  unprinted = h;
+  noise_is = refl;
+  of_all = λ t session is.
+      let all : i0.left ≡ h.fed ++ ((h.fed_is).rest ++ i.left) =
+      h.took.left t ∙ (ap (λ (z : List ℕ). z ++ i.left) (h.fed_is).is ∙ append_assoc h.fed (h.fed_is).rest i.left) in
+      WroteFront-longer o0 o (answer_lines h.session.answers) (answer_lines session.answers) h.wrote
+      (front_answers settings spare h.fed ((h.fed_is).rest ++ i.left) h.session session h.session_is (subst (λ (z : List ℕ). SessionOf settings spare z session) all is));
+}
+
 abbrev tried : (settings : Parts) (spare : ℕ) (i0 i : Left ℕ) (before after : Pool) (desk : Desk) (o0 o1 : Written ℕ) (air : List Bool) → (h : AnsweredInput settings spare i0 i before after desk o0 o1) → pages before ≡ []
     → IsAir (pages after) air → TriedSession settings spare i0 i
 tried settings spare i0 i before after desk o0 o1 air h none is = record {
@@ -98,11 +151,16 @@ leaves_accepted settings spare session before after desk none h = record {
 }
 
 -- the line between couldn't be printed
-abbrev pub tries_between : (settings : Parts) (spare : ℕ) (printed : List Bool → List ℕ) (i0 i : Left ℕ) (before after : Pool) (desk : Desk) (n : Left Bool) (o0 o1 o2 : Written ℕ) (piece : List ℕ) (e : Failed)
-    → printed [] ≡ [] → piece ≡ codes "---\n" → AnsweredInput settings spare i0 i before after desk o0 o1 → pages before ≡ [] → Puts {T = Unit {0}} o1 o2 piece (Err e)
+pub tries_between : (settings : Parts) (spare : ℕ) (printed : List Bool → List ℕ) (i0 i : Left ℕ) (before after : Pool) (desk : Desk) (n : Left Bool) (o0 o1 o2 : Written ℕ) (piece : List ℕ) (e : Failed)
+    → printed [] ≡ [] → Grows printed → piece ≡ codes "---\n" → AnsweredInput settings spare i0 i before after desk o0 o1 → pages before ≡ [] → Puts {T = Unit {0}} o1 o2 piece (Err e)
     → TriedFront settings spare printed i0 i n n o0 o2
-tries_between settings spare printed i0 i before after desk n o0 o1 o2 piece e silent is h none k =
+tries_between settings spare printed i0 i before after desk n o0 o1 o2 piece e silent g is h none k =
     let a = air_of (pages after) in
+    let wrote : WroteFront o0 o2 (trial_lines printed h.session []) =
+    subst (λ (z : List ℕ). WroteFront o0 o2 z)
+    (ap (λ (z : List ℕ). answer_lines h.session.answers ++ z) is ∙ (sym (append-nil (answer_lines h.session.answers ++ codes "---\n"))
+    ∙ ap (λ (z : List ℕ). answer_lines h.session.answers ++ codes "---\n" ++ z) (sym (silent))))
+    (WroteFront-then {T = Unit {0}} o0 o1 o2 (answer_lines h.session.answers) piece e h.wrote k) in
     record {
       tried = tried settings spare i0 i before after desk o0 o1 a.0 h none a.1;
       heard = [];
@@ -112,10 +170,9 @@ tries_between settings spare printed i0 i before after desk n o0 o1 o2 piece e s
       took_flips = Took-nothing n;
       of_noise = λ t. refl;
       there = λ t some. absurd (some refl);
-      wrote = subst (λ (z : List ℕ). WroteFront o0 o2 z)
-          (ap (λ (z : List ℕ). answer_lines h.session.answers ++ z) is ∙ (sym (append-nil (answer_lines h.session.answers ++ codes "---\n"))
-          ∙ ap (λ (z : List ℕ). answer_lines h.session.answers ++ codes "---\n" ++ z) (sym (silent))))
-          (WroteFront-then {T = Unit {0}} o0 o1 o2 (answer_lines h.session.answers) piece e h.wrote k);
+      wrote = wrote;
+      of_all = λ t.
+          WroteFront-longer o0 o2 (trial_lines printed h.session []) (trial_lines printed h.session (noisy_bits a.0 n.left)) wrote (front_trial printed g h.session a.0 [] a.0 [] n.left refl refl);
       few = omega arith;
       fewer = λ t lt. absurd (omega (arith, lt));
       untouched = λ none. refl;
@@ -123,9 +180,9 @@ tries_between settings spare printed i0 i before after desk n o0 o1 o2 piece e s
 
 -- the line between was printed, and then what was heard
 pub tries_heard : (settings : Parts) (spare : ℕ) (printed : List Bool → List ℕ) (i0 i : Left ℕ) (before after new : Pool) (desk : Desk) (n0 n : Left Bool) (o0 o1 o2 o3 : Written ℕ) (piece : List ℕ) (x : Unit {0})
-    (status : Status) → piece ≡ codes "---\n" → AnsweredInput settings spare i0 i before after desk o0 o1 → pages before ≡ [] → Puts {E = Failed} o1 o2 piece (Ok x)
+    (status : Status) → Grows printed → piece ≡ codes "---\n" → AnsweredInput settings spare i0 i before after desk o0 o1 → pages before ≡ [] → Puts {E = Failed} o1 o2 piece (Ok x)
     → HearsPages (pages after) printed n0 n o2 o3 status → HearingLeaves after new status → HasTried settings spare printed i0 i n0 n o0 o3 new desk status
-tries_heard settings spare printed i0 i before after new desk n0 n o0 o1 o2 o3 piece x status is h none k q leaves = by_status status q.heard leaves
+tries_heard settings spare printed i0 i before after new desk n0 n o0 o1 o2 o3 piece x status g is h none k q leaves = by_status status q.heard leaves
   where
     between : Wrote o0 o2 (answer_lines h.session.answers ++ codes "---\n")
     between = subst (λ (z : List ℕ). Wrote o0 o2 (answer_lines h.session.answers ++ z)) is (Wrote-then {E = Failed} o0 o1 o2 (answer_lines h.session.answers) piece x h.wrote k)
@@ -157,6 +214,7 @@ tries_heard settings spare printed i0 i before after new desk n0 n o0 o1 o2 o3 p
       wrote = wrote_more o0 o2 o3 (answer_lines h.session.answers ++ codes "---\n") (printed (noisy_bits p.heard p.noise)) between p.wrote;
       as_many = p.as_many;
       more = p.more;
+      of_all = λ t. front_trial printed g h.session q.air p.heard p.rest p.noise n0.left p.bits_are (p.of_noise t);
     } }
     by_status OutFault p l = record { leaves = last; tries = inr (record {
       tried = tried settings spare i0 i before after desk o0 o1 q.air h none q.is_air;
@@ -171,6 +229,10 @@ tries_heard settings spare printed i0 i before after new desk n0 n o0 o1 o2 o3 p
       few = p.few;
       fewer = p.fewer;
       untouched = λ none. absurd (omega (arith, p.some, ap length none));
+      of_all = λ t.
+          WroteFront-longer o0 o3 (trial_lines printed h.session (noisy_bits p.heard p.noise)) (trial_lines printed h.session (noisy_bits q.air n0.left))
+          (front_more o0 o2 o3 (answer_lines h.session.answers ++ codes "---\n") (printed (noisy_bits p.heard p.noise)) between p.wrote)
+          (front_trial printed g h.session q.air p.heard p.rest p.noise n0.left p.bits_are (p.of_noise t));
     }) }
     by_status Usage p l = elim p [ ]
     by_status Settings p l = elim p [ ]

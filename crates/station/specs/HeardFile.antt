@@ -6,7 +6,7 @@ use Rattle.wires.specs.Left.{Left}
 use Rattle.wires.specs.Written.{Written}
 use Rattle.station.specs.declared.statuses.Status.{Status}
 use Rattle.station.specs.declared.statuses.Status.TheVariants.{Memory}
-use Rattle.station.specs.Listening.{Listens}
+use Rattle.station.specs.Listening.{Listens, OutWell}
 
 -- the bits of a file's bytes, as they are read. Reading fails not where the shelf is steady and the name is there
 abbrev pub file_bits : List ℕ → Files → Left Bool
@@ -20,7 +20,7 @@ file_bits name shelf = record {
 }
 
 -- What the bits of a file give was printed, by status: `rest` is what is left of them. No file changed, faults of the shelf are those of
--- reading the bits, and it is steady where they are.
+-- reading the bits, and it is steady where they are. So is an output that was steady and had room for the lines of all bits.
 pub record HearsFile (printed : List Bool → List ℕ) (name : List ℕ) (old new : Files) (out0 out : Written ℕ) (status : Status) : Type 0 where
   pub rest : Left Bool
   pub listens : Listens printed (file_bits name old) rest out0 out status
@@ -29,6 +29,7 @@ pub record HearsFile (printed : List Bool → List ℕ) (name : List ℕ) (old n
   pub tells : new.tells ≡ old.tells
   pub files : all_files new ≡ all_files old
   pub lent : new.lent ≡ old.lent
+  pub out_well : OutWell printed (file_bits name old) out0 out status
 
 -- What the bits of a file give was printed, or there was no memory for the receivers and nothing was touched.
 abbrev pub Plays : (List Bool → List ℕ) → List ℕ → Files → Files → Written ℕ → Written ℕ → Status → Type 0

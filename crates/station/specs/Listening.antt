@@ -1,12 +1,13 @@
 -- Bits that were listened to, and what was printed of them.
-use Rattle.std.specs.Prelude.{◌≡◌, ◌≢◌, ℕ, ◌+◌, ◌*◌, ◌≤◌, ◌<◌, Bool, List, [], ◌∷◌, ◌++◌, length, Result, Ok, Err, IsTrue}
+use Rattle.std.specs.Prelude.{◌≡◌, ◌≢◌, ℕ, ◌+◌, ◌*◌, ◌≤◌, ◌<◌, Bool, List, [], ◌∷◌, ◌++◌, length, take, Result, Ok, Err, IsTrue}
+use Rattle.receiver.specs.Growing.{IsFront}
 use Rattle.wires.specs.Causes.{Rose}
 use Rattle.wires.specs.Left.{Left, Took}
 use Rattle.wires.specs.Pieces.{taken_of}
 use Rattle.wires.specs.Written.{Written, Puts}
 use Rattle.station.specs.declared.statuses.Status.{Status}
 use Rattle.station.specs.declared.statuses.Status.TheVariants.{Done, FileFault, OutFault, TooLong}
-use Rattle.station.specs.Wrote.{Wrote, WroteFront}
+use Rattle.station.specs.Wrote.{FitFor, StaysWell, Wrote, WroteFront}
 
 -- of 67,108,864 bytes so many bits are listened to
 abbrev pub most_bits : ℕ
@@ -49,20 +50,25 @@ pub record ListenedTooLong (printed : List Bool → List ℕ) (old new : Left Bo
   pub many : length bits ≡ most_bits
   pub wrote : Wrote out0 out (printed bits)
 
--- A read failed, and what the bits before it give was printed. Where there are any, they were read from what was there.
+-- A read failed, and what the bits before it give was printed, which is a front of what all bits give that are to be listened to. Where
+-- there are any, they were read from what was there.
 pub record ListenedToFault (printed : List Bool → List ℕ) (old new : Left Bool) (out0 out : Written ℕ) : Type 0 where
   pub bits : List Bool
   pub failed : FailedAfter old new bits
   pub there : IsTrue old.tells → bits ≢ [] → IsTrue old.there
   pub wrote : Wrote out0 out (printed bits)
+  pub few : length bits ≤ most_bits
+  pub of_all : IsTrue old.tells → IsFront (printed bits) (printed (take most_bits old.left))
 
--- A write failed, after a front of what the bits give that were read, from what was there.
+-- A write failed, after a front of what the bits give that were read, from what was there. That is a front of what all bits give that are
+-- to be listened to, and no steady sink with room for all of that fails.
 pub record ListenedUnheard (printed : List Bool → List ℕ) (old new : Left Bool) (out0 out : Written ℕ) : Type 0 where
   pub bits : List Bool
   pub took : Took old new bits
   pub there : IsTrue old.tells → IsTrue old.there
   pub few : length bits ≤ most_bits
   pub wrote : WroteFront out0 out (printed bits)
+  pub of_all : IsTrue old.tells → WroteFront out0 out (printed (take most_bits old.left))
 
 -- What was listened to and printed, by status. `printed` says what a list of bits gives.
 abbrev pub Listens : (List Bool → List ℕ) → Left Bool → Left Bool → Written ℕ → Written ℕ → Status → Type 0
@@ -71,6 +77,10 @@ Listens printed old new out0 out TooLong = ListenedTooLong printed old new out0 
 Listens printed old new out0 out FileFault = ListenedToFault printed old new out0 out
 Listens printed old new out0 out OutFault = ListenedUnheard printed old new out0 out
 Listens printed old new out0 out other = ⊥
+
+-- Over a steady output with room for what all bits give that are to be listened to, no write failed, and the output is steady.
+abbrev pub OutWell : (List Bool → List ℕ) → Left Bool → Written ℕ → Written ℕ → Status → Type 0
+OutWell printed bits out0 out status = IsTrue bits.tells → FitFor out0 (printed (take most_bits bits.left)) → (status ≢ OutFault) × StaysWell out0 out
 
 -- Listening is under way: these bits were read, and what they give was printed. So many bits more are listened to.
 pub record ListeningTo (printed : List Bool → List ℕ) (old now : Left Bool) (out0 out : Written ℕ) (to_come : ℕ) : Type 0 where

@@ -5,7 +5,6 @@ use Rattle.bits.specs.Bits.{bytes_bits}
 use Rattle.tap_block.specs.Chars.{characters}
 use Rattle.wires.specs.Files.{Files}
 use Rattle.wires.specs.Stacked.{are_bytes}
-use Rattle.wires.specs.Written.{Written}
 use Rattle.station.specs.declared.statuses.Status.{Status}
 use Rattle.station.specs.declared.statuses.Status.TheVariants.{Memory}
 use Rattle.station.specs.AlphaPage.{alpha_page}
@@ -14,6 +13,7 @@ use Rattle.station.specs.LoneBlock.{HasText, IsMarkedBlock}
 use Rattle.station.specs.PageLines.{play_lines}
 use Rattle.station.specs.Rows.{Objects, RunsOne, RunsPlay, RunsShow, Streams}
 use Rattle.station.specs.Table.{table_of}
+use Rattle.station.specs.Wrote.{FitFor}
 
 -- Two runs came to the same: the status, and what they made.
 pub record SameOutcome {A : Type 0} (status another : Status) (made again : A) : Type 0 where
@@ -25,12 +25,6 @@ pub record FitFile (name : List ℕ) (shelf : Files) : Type 0 where
   pub tells : IsTrue shelf.tells
   pub steady : IsTrue shelf.steady
   pub there : IsTrue (shelf.there name)
-
--- The output is steady, and has room for this.
-pub record FitFor (out : Written ℕ) (piece : List ℕ) : Type 0 where
-  pub tells : IsTrue out.tells
-  pub steady : IsTrue out.steady
-  pub room : length piece ≤ out.room
 
 -- the bits of a file that are listened to: those of its first 67,108,864 bytes
 abbrev pub bits_listened : List ℕ → Files → List Bool

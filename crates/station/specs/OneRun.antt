@@ -3,19 +3,18 @@ use Rattle.std.specs.Prelude.{◌≡◌, ◌≢◌, ℕ, ◌≤◌, List, length
 use Rattle.bits.specs.Bits.{bytes_bits}
 use Rattle.wires.specs.Stacked.{are_bytes}
 use Rattle.station.specs.declared.outcomes.Outcome.{Outcome}
-use Rattle.station.specs.declared.outcomes.Outcome.TheVariants.{Ended, Misread, Refused}
 use Rattle.station.specs.declared.statuses.Status.{Status}
 use Rattle.station.specs.declared.statuses.Status.TheVariants.{Memory}
 use Rattle.station.specs.Commands.{AreCommand, Command, One, Play, Send, Show, Station, Trial}
-use Rattle.station.specs.OneOutcome.{FitFile, FitFor, FitOne, bits_listened}
+use Rattle.station.specs.OneOutcome.{FitFile, FitOne, bits_listened}
 use Rattle.station.specs.OneSend.{FitSend, SameSending}
 use Rattle.station.specs.OneStation.{FitStation, SameServing}
 use Rattle.station.specs.OneTrial.{FitTrial}
-use Rattle.station.specs.Outcomes.{pages_line, settings_line}
+use Rattle.station.specs.Outcomes.{line_about}
 use Rattle.station.specs.PageLines.{play_lines}
 use Rattle.station.specs.Rows.{Acts, Objects, Outside, Runs, around}
-use Rattle.station.specs.Statuses.{line_of}
 use Rattle.station.specs.Table.{table_of}
+use Rattle.station.specs.Wrote.{FitFor}
 
 -- the objects are fit for a command
 abbrev pub FitRun : Option Command → Objects → Type 0
@@ -34,12 +33,6 @@ MadeAlike (Some (One capcode)) old new other = (bytes_bits other.streams.out.hel
 MadeAlike (Some (Station address settings air count)) old new other = SameServing air (around new) (around other)
 MadeAlike (Some (Send address pages)) old new other = SameSending (around new) (around other)
 MadeAlike (Some command) old new other = other.streams.out.held ≡ new.streams.out.held
-
--- the line about what a command came to
-abbrev pub line_about : Outcome → List ℕ
-line_about (Ended status) = line_of status
-line_about (Refused fault) = settings_line fault
-line_about (Misread fault) = pages_line fault
 
 -- The output of errors is steady, and has room for the line about whatever the command may come to.
 pub record FitErr (command : Option Command) (old : Outside) : Type 0 where

@@ -10,7 +10,7 @@ use Rattle.station.specs.declared.outcomes.Outcome.TheVariants.{Ended, Misread, 
 use Rattle.station.specs.declared.statuses.Status.{Status}
 use Rattle.station.specs.declared.statuses.Status.TheVariants.{BadPages, Done, OutFault, Settings}
 use Rattle.station.specs.Statuses.{line_of}
-use Rattle.station.specs.Wrote.{Wrote, WroteFront}
+use Rattle.station.specs.Wrote.{FitFor, StaysWell, Wrote, WroteFront}
 
 -- what is said of a settings file that is refused. The numbers count entries from 1
 abbrev pub fault_text : SettingsFault → List ℕ
@@ -64,3 +64,13 @@ abbrev pub TellsOutcome : Outcome → Written ℕ → Written ℕ → Status →
 TellsOutcome (Ended status) old new result = Tells status old new result
 TellsOutcome (Refused fault) old new result = TellsRefusal fault old new result
 TellsOutcome (Misread fault) old new result = TellsMisread fault old new result
+
+-- the line about what a command came to
+abbrev pub line_about : Outcome → List ℕ
+line_about (Ended status) = line_of status
+line_about (Refused fault) = settings_line fault
+line_about (Misread fault) = pages_line fault
+
+-- Over a steady err with room for the line no write failed, and it is steady. The run ends with OutFault only where the command did.
+abbrev pub ErrWell : Outcome → Written ℕ → Written ℕ → Status → Type 0
+ErrWell outcome old new result = FitFor old (line_about outcome) → (result ≡ OutFault → outcome ≡ Ended OutFault) × StaysWell old new

@@ -16,7 +16,7 @@ use Rattle.station.specs.HeardFile.{HearsFile, Plays}
 use Rattle.station.specs.LoneBlock.{HasText, IsLoneBlock, IsMarkedBlock}
 use Rattle.station.specs.PageLines.{play_lines}
 use Rattle.station.specs.Promises.{HearNear, StationPromise, TrialPromise}
-use Rattle.station.specs.Outcomes.{TellsOutcome}
+use Rattle.station.specs.Outcomes.{ErrWell, TellsOutcome}
 use Rattle.station.specs.declared.outcomes.Outcome.{Outcome}
 use Rattle.station.specs.declared.outcomes.Outcome.TheVariants.{Ended, Misread, Refused}
 use Rattle.station.specs.SendRows.{SendRow}
@@ -172,7 +172,8 @@ pub record Outside : Type 0 where
   pub objects : Objects
   pub err : Written ℕ
 
--- A run: the command of its words, what the command came to and what it promises, and the line about it.
+-- A run: the command of its words, what the command came to and what it promises, and the line about it, which a steady err with room
+-- for it gets.
 pub record Runs (words : List (List ℕ)) (old new : Outside) (result : Status) : Type 0 where
   pub command : Option Command
   pub words_are : AreCommand words command
@@ -180,3 +181,4 @@ pub record Runs (words : List (List ℕ)) (old new : Outside) (result : Status) 
   pub acts : Acts command old.objects new.objects outcome
   pub promises : Promises command old.objects new.objects outcome acts
   pub tells : TellsOutcome outcome old.err new.err result
+  pub err_well : ErrWell outcome old.err new.err result

@@ -14,7 +14,7 @@ use Rattle.station.specs.declared.statuses.Status.TheVariants.{FileFault, Memory
 use Rattle.station.specs.PageLines.{play_lines}
 use Rattle.station.specs.ReadFile.{KeepsFiles, ReadSettings, RefusedSettings, Unharmed, Unreadable}
 use Rattle.station.specs.Serving.{Around, HasServed}
-use Rattle.station.specs.Trying.{Tries}
+use Rattle.station.specs.Trying.{TrialOutWell, Tries}
 
 -- with this shelf in place of its own
 abbrev pub with_shelf : Around → Files → Around
@@ -50,7 +50,7 @@ pub record AreFileBits (name : List ℕ) (shelf : Files) (bits : Left Bool) : Ty
   pub faults : bits.faults ≡ shelf.faults
 
 -- The session of an input was tried, with the bits of a file as noise, of which `rest` is left. No file changed, and the
--- shelf is steady where the noise is.
+-- shelf is steady where the noise is. So is an output that was steady and had room for the lines of the trial.
 pub record TriesFile (parts : Parts) (spare : ℕ) (printed : List Bool → List ℕ) (noise : List ℕ) (input0 input : Left ℕ) (old new : Files) (out0 out : Written ℕ) (status : Status) : Type 0 where
   pub bits : Left Bool
   pub rest : Left Bool
@@ -59,6 +59,7 @@ pub record TriesFile (parts : Parts) (spare : ℕ) (printed : List Bool → List
   pub kept : KeepsFiles old new
   pub faults : new.faults ≡ rest.faults
   pub steady : IsTrue rest.steady → IsTrue new.steady
+  pub out_well : TrialOutWell parts spare printed input0 bits out0 out status
 
 -- The settings were read, and the session of the input tried by them.
 pub record TriedBy (settings noise capcodes : List ℕ) (input0 input : Left ℕ) (old new : Files) (out0 out : Written ℕ) (status : Status) : Type 0 where

@@ -1,12 +1,8 @@
 -- What happened on an open connection.
 use Rattle.std.specs.Prelude.{◌≡◌, ◌≢◌, ℕ, ◌+◌, ◌≤◌, List, ◌++◌, length, IsTrue}
+pub use Rattle.receiver.specs.Growing.{IsFront}
 use Rattle.wires.specs.Held.{Connection}
 use Rattle.wires.specs.Line.{Line, last}
-
--- a list begins with another
-pub record IsFront {A : Type 0} (front whole : List A) : Type 0 where
-  pub rest : List A
-  pub is : whole ≡ front ++ rest
 
 -- the open connection, or the one that was opened last
 abbrev pub here : Line → Connection

@@ -2,6 +2,7 @@
 use Rattle.std.specs.Prelude.{◌≡◌, ◌≢◌, ◌⊎◌, ℕ, ◌≤◌, ◌<◌, Bool, List, [], ◌++◌, codes, length, IsTrue}
 use Rattle.air.specs.Air.{IsAir}
 use Rattle.page_text.specs.Page.{Page}
+use Rattle.receiver.specs.Growing.{IsFront}
 use Rattle.subscribers.specs.Parts.{Parts}
 use Rattle.tap_terminal.specs.Session.{Session}
 use Rattle.wires.specs.Left.{Left, Took}
@@ -14,7 +15,7 @@ use Rattle.station.specs.Answers.{answer_lines}
 use Rattle.station.specs.Listening.{FailedAfter}
 use Rattle.station.specs.Noise.{ListensThrough}
 use Rattle.station.specs.Sessions.{SessionOf}
-use Rattle.station.specs.Wrote.{Wrote, WroteFront}
+use Rattle.station.specs.Wrote.{FitFor, StaysWell, Wrote, WroteFront}
 
 -- The session of an input, which was read up to its End or to its end, and the transmission of the pages that it accepted.
 pub record TriedSession (settings : Parts) (spare : ℕ) (old new : Left ℕ) : Type 0 where
@@ -44,8 +45,8 @@ pub record TriedAll (settings : Parts) (spare : ℕ) (printed : List Bool → Li
   pub fewer : IsTrue noise0.tells → length flips < length tried.air → noise.left ≡ []
   pub untouched : tried.air ≡ [] → noise ≡ noise0
 
--- The noise failed for a bit of the transmission. What is heard of the bits before was printed, and as many bits of the noise were read. Where
--- there are any, the noise was there.
+-- The noise failed for a bit of the transmission. What is heard of the bits before was printed, and all that was printed is a front of the
+-- lines of the whole trial. As many bits of the noise were read. Where there are any, the noise was there.
 pub record TriedNoise (settings : Parts) (spare : ℕ) (printed : List Bool → List ℕ) (old new : Left ℕ) (noise0 noise : Left Bool) (out0 out : Written ℕ) : Type 0 where
   pub tried : TriedSession settings spare old new
   pub heard : List Bool
@@ -58,9 +59,11 @@ pub record TriedNoise (settings : Parts) (spare : ℕ) (printed : List Bool → 
   pub wrote : Wrote out0 out (trial_lines printed tried.session (noisy_bits heard flips))
   pub as_many : length flips ≡ length heard
   pub more : 0 < length rest
+  pub of_all : IsTrue noise0.tells → IsFront (trial_lines printed tried.session (noisy_bits heard flips)) (trial_lines printed tried.session (noisy_bits tried.air noise0.left))
 
--- A write failed behind the answers: a front of the lines was written of what is heard of a front of the transmission. Where that has any
--- bit, the noise was there. As many bits of the noise were read, or all that it had, and where that front has no bit it is as before.
+-- A write failed behind the answers: a front of the lines was written of what is heard of a front of the transmission, and so a front of
+-- the lines of the whole trial. Where bits were heard, the noise was there. As many bits of the noise were read, or all that it had, and where
+-- no bit was heard it is as before.
 pub record TriedFront (settings : Parts) (spare : ℕ) (printed : List Bool → List ℕ) (old new : Left ℕ) (noise0 noise : Left Bool) (out0 out : Written ℕ) : Type 0 where
   pub tried : TriedSession settings spare old new
   pub heard : List Bool
@@ -74,17 +77,20 @@ pub record TriedFront (settings : Parts) (spare : ℕ) (printed : List Bool → 
   pub few : length flips ≤ length heard
   pub fewer : IsTrue noise0.tells → length flips < length heard → noise.left ≡ []
   pub untouched : heard ≡ [] → noise ≡ noise0
+  pub of_all : IsTrue noise0.tells → WroteFront out0 out (trial_lines printed tried.session (noisy_bits tried.air noise0.left))
 
--- A write failed among the answers, and the noise is as before.
+-- A write failed among the answers: a front of the answer lines of the whole input was written. The noise is as before.
 pub record TriedAnswers (settings : Parts) (spare : ℕ) (old new : Left ℕ) (noise0 noise : Left Bool) (out0 out : Written ℕ) : Type 0 where
   pub taken : List ℕ
   pub unprinted : AnsweredUnprinted settings spare old new out0 out taken
   pub noise_is : noise ≡ noise0
+  pub of_all : IsTrue old.tells → (session : Session) → SessionOf settings spare old.left session → WroteFront out0 out (answer_lines session.answers)
 
--- A read of the input failed, and the noise is as before.
+-- A read of the input failed: the answer lines that were printed are a front of those of the whole input. The noise is as before.
 pub record TriedInput (settings : Parts) (spare : ℕ) (old new : Left ℕ) (noise0 noise : Left Bool) (out0 out : Written ℕ) : Type 0 where
   pub broken : AnsweredBroken settings spare old new out0 out
   pub noise_is : noise ≡ noise0
+  pub of_all : IsTrue old.tells → (session : Session) → SessionOf settings spare old.left session → IsFront (answer_lines broken.session.answers) (answer_lines session.answers)
 
 -- a trial, by status
 abbrev pub Tries : Parts → ℕ → (List Bool → List ℕ) → Left ℕ → Left ℕ → Left Bool → Left Bool → Written ℕ → Written ℕ → Status → Type 0
@@ -100,3 +106,9 @@ pub record HearsPages (pages : List Page) (printed : List Bool → List ℕ) (no
   pub air : List Bool
   pub is_air : IsAir pages air
   pub heard : ListensThrough printed air noise0 noise out0 out status
+
+-- Over a steady output with room for all lines of the trial, no write failed, and the output is steady.
+abbrev pub TrialOutWell : Parts → ℕ → (List Bool → List ℕ) → Left ℕ → Left Bool → Written ℕ → Written ℕ → Status → Type 0
+TrialOutWell settings spare printed input noise out0 out status = IsTrue input.tells → IsTrue noise.tells
+    → (session : Session) (air : List Bool) → SessionOf settings spare input.left session → IsAir session.pages air
+    → FitFor out0 (trial_lines printed session (noisy_bits air noise.left)) → (status ≢ OutFault) × StaysWell out0 out

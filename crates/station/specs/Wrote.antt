@@ -38,3 +38,14 @@ pub record WroteFront {A : Type 0} (old new : Written A) (piece : List A) : Type
 -- Where a sink holds bytes, what was appended to it are bytes.
 abbrev pub AppendsBytes : Written ℕ → Written ℕ → Type 0
 AppendsBytes old new = IsTrue old.tells → IsTrue (are_bytes old.held) → (piece : List ℕ) × IsTrue (are_bytes piece) × (new.held ≡ old.held ++ piece)
+
+-- The sink is steady, and has room for this.
+pub record FitFor (out : Written ℕ) (piece : List ℕ) : Type 0 where
+  pub tells : IsTrue out.tells
+  pub steady : IsTrue out.steady
+  pub room : length piece ≤ out.room
+
+-- No fault was counted, and the sink is steady.
+pub record StaysWell (old new : Written ℕ) : Type 0 where
+  pub steady : IsTrue new.steady
+  pub faults : new.faults ≡ old.faults

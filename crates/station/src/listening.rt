@@ -1,6 +1,7 @@
 //! Listening to bits, some at a time, and printing what they give.
 
 ghost use Rattle.std.specs.Prelude.{◌≡◌, ℕ, ◌+◌, ◌<◌, ◌^◌, ◌++◌, [], Bool, List, OnOk, length};
+ghost use Rattle.receiver.specs.Growing.{Grows};
 ghost use Rattle.station.specs.Listening.{Listens, Prints, put_of};
 ghost use Rattle.wires.specs.Pieces.{taken_of};
 
@@ -64,6 +65,7 @@ pub(crate) fn listen<B: BitSource, P: Listener, O: Sink>(
 ) -> Status
     requires none { P.fed listener.old [] }
     requires silent { P.printed listener.old [] ≡ [] }
+    requires grows { Grows (P.printed listener.old) }
     ensures { Listens (P.printed listener.old) (B.state bits.old) (B.state bits.new) (O.state out.old) (O.state out.new) result }
 {
     let mut to_come = MOST_BITS;

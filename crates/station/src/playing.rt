@@ -4,7 +4,7 @@ ghost use Rattle.std.specs.Prelude.{◌≡◌, ◌≤◌, ◌++◌, [], IfOk, le
 ghost use Rattle.page_text.specs.Line.{line_of};
 ghost use Rattle.receiver.specs.Listeners.{StandsFor};
 ghost use Rattle.receiver.specs.Receivers.{has_in, numbers_with};
-ghost use Rattle.station.specs.Listening.{Listens};
+ghost use Rattle.station.specs.Listening.{Listens, OutWell};
 ghost use Rattle.station.specs.PageLines.{group_lines, lines_for, number_text, play_lines};
 ghost use Rattle.wires.specs.Written.{Puts};
 ghost use Rattle.station.specs.Table.{table_of};
@@ -104,10 +104,12 @@ pub(crate) fn group_of(alloc: Global, capcodes: &[Capcode]) -> Result<Group, Mem
 /// At most the bits of 67,108,864 bytes are heard.
 ///
 /// The answer is Done where all bits were heard; TooLong exactly where so many were and another bit follows; FileFault where a read
-/// failed; OutFault where a write failed.
+/// failed; OutFault where a write failed, which doesn't happen over a steady output with room for the lines of all bits. At both faults a
+/// front of these lines was put.
 pub fn play<B: BitSource, O: Sink>(bits: &mut B, group: &mut Group, out: &mut O) -> Status
     requires { StandsFor group.old [] }
-    ensures { Listens (group_lines group.old) (B.state bits.old) (B.state bits.new) (O.state out.old) (O.state out.new) result }
+    ensures listens { Listens (group_lines group.old) (B.state bits.old) (B.state bits.new) (O.state out.old) (O.state out.new) result }
+    ensures out_well { OutWell (group_lines group.old) (B.state bits.old) (O.state out.old) (O.state out.new) result }
 {
     listen(bits, group, out)
 }
@@ -115,7 +117,8 @@ pub fn play<B: BitSource, O: Sink>(bits: &mut B, group: &mut Group, out: &mut O)
 /// Puts the table of what is heard in bits: a line for each sync word that was found or is good at its place, and for each slot. A
 /// word that isn't whole has no line. The answers are those of `play`.
 pub fn show<B: BitSource, O: Sink>(bits: &mut B, out: &mut O) -> Status
-    ensures { Listens table_of (B.state bits.old) (B.state bits.new) (O.state out.old) (O.state out.new) result }
+    ensures listens { Listens table_of (B.state bits.old) (B.state bits.new) (O.state out.old) (O.state out.new) result }
+    ensures out_well { OutWell table_of (B.state bits.old) (O.state out.old) (O.state out.new) result }
 {
     listen(bits, &mut Table::new(), out)
 }

@@ -5,7 +5,7 @@ ghost use Rattle.page_pool.specs.Pool.{cells, pages};
 ghost use Rattle.receiver.specs.Listeners.{StandsFor as HasHeard};
 ghost use Rattle.station.specs.PageLines.{group_lines};
 ghost use Rattle.station.specs.Leaves.{HasTried, HearingLeaves};
-ghost use Rattle.station.specs.Trying.{HearsPages};
+ghost use Rattle.station.specs.Trying.{HearsPages, TrialOutWell};
 
 use crate::answering::InputEnd;
 use crate::noise::listen_through;
@@ -29,8 +29,8 @@ impl Station {
     /// the transmission, and not where no page was accepted.
     ///
     /// The answer is Done where all was printed; InputFault where a read of the input failed; FileFault where one of the noise did;
-    /// OutFault where a write did. No page is left in the pool behind Done. `report` is then that of the session that was tried, at every
-    /// answer.
+    /// OutFault where a write did, which doesn't happen over a steady output with room for all lines. At each fault a front of all lines
+    /// was put. No page is left in the pool behind Done. `report` is then that of the session that was tried, at every answer.
     pub fn trial<I: Source, N: BitSource, O: Sink>(
         &mut self,
         input: &mut I,
@@ -43,6 +43,7 @@ impl Station {
         ensures cells_are { cells self.new.pool ≡ self.old.settings.cells }
         ensures tries { HasTried self.old.settings self.old.settings.cells (group_lines group.old) (I.state input.old) (I.state input.new) (N.state noise.old) (N.state noise.new) (O.state out.old) (O.state out.new)
             self.new.pool self.new.desk result }
+        ensures out_well { TrialOutWell self.old.settings self.old.settings.cells (group_lines group.old) (I.state input.old) (N.state noise.old) (O.state out.old) (O.state out.new) result }
     {
         self.pool.clear();
         match self.answer_input(input, out) {

@@ -10,5 +10,5 @@ returns g c =
     let h : HearsFile table_of c.args.name.now (g.F.Shelf.state c.args.shelf.now) (g.F.Shelf.state c.show.new.bits.shelf.now) (g.O.Sink.state c.args.out.now) (g.O.Sink.state c.show.new.out) c.show.result
     = hears_file table_of _ _ c.args.name.now _ _ _ _ _ _ (g.F.Shelf.state c.args.shelf.now) (g.F.Shelf.state c.over-bits.result.shelf.now) (g.F.Shelf.state c.show.new.bits.shelf.now)
     (g.O.Sink.state c.args.out.now) (g.O.Sink.state c.show.new.out) c.show.result
-    c.over-bits.ensures.ready c.over-bits.ensures.from c.over-bits.ensures.name (ap g.F.Shelf.state c.over-bits.ensures.same) c.show.ensures in
+    c.over-bits.ensures.ready c.over-bits.ensures.from c.over-bits.ensures.name (ap g.F.Shelf.state c.over-bits.ensures.same) c.show.ensures.listens in
     grind (arith, common_steps, h)

@@ -1,4 +1,5 @@
 use Rattle.station.proofs.Promised.{promised}
+use Rattle.station.proofs.Told.{told_well}
 use Rattle.station.proofs.top.run.Goals as goal
 
 pub returns : goal.returns
@@ -9,4 +10,5 @@ returns g c = record {
   acts = c.act-outcome.ensures;
   promises = promised _ _ _ _ c.act-outcome.result c.act-outcome.ensures c.parse.ensures;
   tells = c.tell_outcome.ensures;
+  err_well = told_well c.act-outcome.result _ _ c.tell_outcome.result c.tell_outcome.ensures;
 }

@@ -1,10 +1,9 @@
 use Rattle.std.proofs.Common.{ℕ, List, take, subst}
 use Rattle.wires.specs.Pieces.{taken_of}
 use Rattle.wires.specs.Written.{Puts}
-use Rattle.receiver.specs.Listeners.{is_one_of}
 use Rattle.receiver.specs.Receivers.{has_in, numbers_with}
 use Rattle.station.specs.PageLines.{group_lines, lines_for}
-use Rattle.station.proofs.HeardFronts.{lines_heard-grow}
+use Rattle.station.proofs.HeardFronts.{group_lines-grow}
 use Rattle.station.proofs.Listens.{prints_whole}
 use Rattle.station.proofs.PlayedPages.{prints_no_page, prints_page}
 use Rattle.station.proofs.playing.GroupListener.hear.Goals as goal
@@ -16,7 +15,7 @@ returns-in_default-clause-prints g c = λ bits lt h.
 pub returns-clause-prints : goal.returns-clause-prints
 returns-clause-prints g c = λ bits lt h.
     prints_whole (group_lines c.args.self.now) bits c.args.piece.now c.feed_piece.new.piece (g.O.Sink.state c.args.out.now) (g.O.Sink.state c.show_page.new.out) c.show_page.result
-    (lines_heard-grow (is_one_of c.args.self.now.capcodes) (has_in c.args.self.now.holders)) c.feed_piece.ensures.whole
+    (group_lines-grow c.args.self.now) c.feed_piece.ensures.whole
     (prints_page c.args.self.now bits (taken_of c.args.piece.now c.feed_piece.new.piece) _ c.feed_piece.result c.in-Some.page c.text-length.result c.text-length.new.into (g.O.Sink.state c.args.out.now)
     (g.O.Sink.state c.show_page.new.out) c.show_page.result
     c.in-Some.is c.feed_piece.ensures.answer (c.feed_piece.ensures.page bits h) c.text-length.ensures.text

@@ -7,9 +7,10 @@ use Rattle.station.specs.Leaves.{HasTried}
 use Rattle.station.specs.PageLines.{group_lines}
 use Rattle.station.specs.Trying.{HearsPages}
 use Rattle.station.specs.declared.statuses.Status.TheVariants.{InputFault, OutFault}
+use Rattle.station.proofs.HeardFronts.{group_lines-grow}
 use Rattle.station.proofs.PlayedPages.{group_lines-none}
-use Rattle.station.proofs.Servings.{all_spare}
-use Rattle.station.proofs.Trials.{leaves_accepted, live_none, tries_between, tries_heard, was_last}
+use Rattle.station.proofs.Trials.{leaves_accepted, live_none, tries_between, tries_broken, tries_heard, tries_unanswered, was_last}
+use Rattle.station.proofs.TriedWell.{tried_well}
 use Rattle.station.proofs.session.Station.trial.Goals as goal
 
 pub returns-in-Err-clause-tries : goal.returns-in-Err-clause-tries
@@ -22,7 +23,7 @@ returns-in-Err-clause-tries g c =
     c.self.view_is
     (record {
       tries = inr (tries_between c.self.inside.settings c.self.inside.settings.cells (group_lines c.args.group.now) _ _ c.clear.new.self c.answer_input.new.self.pool _ _ _ _ _ _ c.in-Err.field-0
-          (group_lines-none c.args.group.now) refl answered (live_none c.clear.new.self c.clear.ensures.live) c.in-Err.ensures);
+          (group_lines-none c.args.group.now) (group_lines-grow c.args.group.now) refl answered (live_none c.clear.new.self c.clear.ensures.live) c.in-Err.ensures);
       leaves = was_last _ _ _ _ _ _ answered.leaves;
     })
 
@@ -38,7 +39,7 @@ returns-clause-tries g c =
     (g.N.BitSource.state c.args.noise.now) (g.N.BitSource.state c.hear_pages.new.noise) (g.O.Sink.state c.args.out.now) (g.O.Sink.state c.hear_pages.new.out) c.hear_pages.new.pool d c.hear_pages.result)
     (sym (ap (λ (h : Hall). h.desk) c.self-2.view_is))
     (tries_heard c.self.inside.settings c.self.inside.settings.cells (group_lines c.args.group.now) _ _ c.clear.new.self c.answer_input.new.self.pool c.hear_pages.new.pool _ _ _ _ _ _ _ _ c.in_default.field-0
-    c.hear_pages.result refl answered (live_none c.clear.new.self c.clear.ensures.live) c.in_default.ensures
+    c.hear_pages.result (group_lines-grow c.args.group.now) refl answered (live_none c.clear.new.self c.clear.ensures.live) c.in_default.ensures
     (subst (λ (h : Hall). HearsPages (pages h.pool) (group_lines c.args.group.now) (g.N.BitSource.state c.args.noise.now) (g.N.BitSource.state c.hear_pages.new.noise)
     (g.O.Sink.state c.put.new.self) (g.O.Sink.state c.hear_pages.new.out) c.hear_pages.result) c.self-2.view_is c.hear_pages.ensures.hears)
     (record { cells_stay = c.hear_pages.ensures.leaves.cells_stay ∙ ap (λ (h : Hall). cells h.pool) c.self-2.view_is; all = c.hear_pages.ensures.leaves.all })))
@@ -49,7 +50,7 @@ returns-in-Broken-clause-tries g c =
     (c.clear.ensures.spare ∙ c.self.invariant.cells_are) c.in-Broken.ensures.answers in
     subst (λ (h : Hall). HasTried h.settings h.settings.cells (group_lines c.args.group.now) (g.I.Source.state c.args.input.now) (g.I.Source.state c.answer_input.new.input) (g.N.BitSource.state c.args.noise.now) (g.N.BitSource.state c.args.noise.now) (g.O.Sink.state c.args.out.now) (g.O.Sink.state c.answer_input.new.out) c.answer_input.new.self.pool c.answer_input.new.self.desk InputFault) c.self.view_is
     (record {
-      tries = record { broken = stopped.broken; noise_is = refl };
+      tries = tries_broken _ _ _ _ (g.N.BitSource.state c.args.noise.now) _ _ stopped.broken;
       leaves = leaves_accepted _ _ _ _ _ _ (live_none c.clear.new.self c.clear.ensures.live) stopped.leaves;
     })
 
@@ -60,6 +61,26 @@ returns-in-Unprinted-clause-tries g c =
     (c.clear.ensures.spare ∙ c.self.invariant.cells_are) c.in-Unprinted.ensures.answers.1 in
     subst (λ (h : Hall). HasTried h.settings h.settings.cells (group_lines c.args.group.now) (g.I.Source.state c.args.input.now) (g.I.Source.state c.answer_input.new.input) (g.N.BitSource.state c.args.noise.now) (g.N.BitSource.state c.args.noise.now) (g.O.Sink.state c.args.out.now) (g.O.Sink.state c.answer_input.new.out) c.answer_input.new.self.pool c.answer_input.new.self.desk OutFault) c.self.view_is
     (record {
-      tries = inl (record { taken = taken; unprinted = stopped.unprinted; noise_is = refl });
+      tries = inl (tries_unanswered _ _ _ _ (g.N.BitSource.state c.args.noise.now) _ _ taken stopped.unprinted);
       leaves = leaves_accepted _ _ _ _ _ _ (live_none c.clear.new.self c.clear.ensures.live) stopped.leaves;
     })
+
+pub returns-in-Broken-clause-out_well : goal.returns-in-Broken-clause-out_well
+returns-in-Broken-clause-out_well g c =
+    tried_well c.args.self.now.settings c.args.self.now.settings.cells (group_lines c.args.group.now) (g.I.Source.state c.args.input.now) (g.I.Source.state c.answer_input.new.input)
+    (g.N.BitSource.state c.args.noise.now) (g.N.BitSource.state c.args.noise.now) (g.O.Sink.state c.args.out.now) (g.O.Sink.state c.answer_input.new.out) InputFault (returns-in-Broken-clause-tries g c).tries
+
+pub returns-in-Unprinted-clause-out_well : goal.returns-in-Unprinted-clause-out_well
+returns-in-Unprinted-clause-out_well g c =
+    tried_well c.args.self.now.settings c.args.self.now.settings.cells (group_lines c.args.group.now) (g.I.Source.state c.args.input.now) (g.I.Source.state c.answer_input.new.input)
+    (g.N.BitSource.state c.args.noise.now) (g.N.BitSource.state c.args.noise.now) (g.O.Sink.state c.args.out.now) (g.O.Sink.state c.answer_input.new.out) OutFault (returns-in-Unprinted-clause-tries g c).tries
+
+pub returns-in-Err-clause-out_well : goal.returns-in-Err-clause-out_well
+returns-in-Err-clause-out_well g c =
+    tried_well c.args.self.now.settings c.args.self.now.settings.cells (group_lines c.args.group.now) (g.I.Source.state c.args.input.now) (g.I.Source.state c.answer_input.new.input)
+    (g.N.BitSource.state c.args.noise.now) (g.N.BitSource.state c.args.noise.now) (g.O.Sink.state c.args.out.now) (g.O.Sink.state c.put.new.self) OutFault (returns-in-Err-clause-tries g c).tries
+
+pub returns-clause-out_well : goal.returns-clause-out_well
+returns-clause-out_well g c =
+    tried_well c.args.self.now.settings c.args.self.now.settings.cells (group_lines c.args.group.now) (g.I.Source.state c.args.input.now) (g.I.Source.state c.answer_input.new.input)
+    (g.N.BitSource.state c.args.noise.now) (g.N.BitSource.state c.hear_pages.new.noise) (g.O.Sink.state c.args.out.now) (g.O.Sink.state c.hear_pages.new.out) c.hear_pages.result (returns-clause-tries g c).tries
