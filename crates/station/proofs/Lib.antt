@@ -25,6 +25,8 @@ pub mod NoisyHeard
 pub mod FewBits
 pub mod Trials
 pub mod Connections
+pub mod InTurn
+pub mod WholeSessions
 pub mod Servings
 pub mod Appended
 pub mod FilesRead
@@ -59,7 +61,6 @@ pub mod OneOutcomes
 pub mod OneAir
 pub mod OneBytes
 pub mod OneOfOne
-pub mod OneTalks
 pub mod OneServings
 pub mod OneStations
 pub mod OneTrials
