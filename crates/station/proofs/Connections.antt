@@ -1,5 +1,5 @@
 -- One connection more is served, or none.
-use Rattle.std.proofs.Common.{◌≡◌, ℕ, ◌+◌, ◌≤◌, ◌<◌, suc, add-zero, Bool, true, false, List, [], ◌∷◌, ◌++◌, append-nil, append_assoc, length, Result, Ok, Err, IsTrue, IsFalse, refl, sym, ◌∙◌, ap, subst, arith}
+use Rattle.std.proofs.Common.{◌≡◌, ℕ, ◌+◌, ◌≤◌, ◌<◌, suc, add-zero, Bool, true, false, List, [], ◌∷◌, ◌++◌, append-nil, append_assoc, length, Result, Ok, Err, IsFalse, refl, sym, ◌∙◌, ap, subst, arith}
 use Rattle.subscribers.specs.Parts.{Parts}
 use Rattle.wires.proofs.Opened.{Opens-blank}
 use Rattle.wires.proofs.Written.{still}

@@ -1,17 +1,20 @@
 -- What the wire is after connections were served in turn, and why sessions were lost.
-use Rattle.std.proofs.Common.{◌≡◌, ◌≢◌, ℕ, ◌+◌, ◌-◌, ◌<◌, ◌≤◌, ◌⊎◌, inl, inr, suc, Bool, true, false, List, [], ◌∷◌, ◌++◌, length, IsTrue, IsFalse, refl, sym, ◌∙◌, ap, subst, arith}
+use Rattle.std.proofs.Common.{◌≡◌, ◌≢◌, ℕ, ◌+◌, ◌-◌, ◌<◌, ◌≤◌, ◌⊎◌, inl, inr, Bool, true, false, List, [], ◌∷◌, length, IsTrue, IsFalse, refl, sym, ◌∙◌, ap, subst, arith}
 use Rattle.std.specs.List.{AllByRecursion}
+use Rattle.std.specs.Prelude.{if◌then◌else◌}
 use Rattle.std.proofs.lemmas.Bool.{cases_lt}
 use Rattle.subscribers.specs.Parts.{Parts}
-use Rattle.tap_terminal.specs.Session.{Session}
+use Rattle.tap_terminal.specs.Session.{Session, is_end}
 use Rattle.wires.proofs.Written.{still}
 use Rattle.wires.specs.Causes.{Rose}
-use Rattle.wires.specs.Line.{IsBlank, Keeps, Line}
+use Rattle.wires.specs.Held.{Connection}
+use Rattle.wires.specs.Line.{IsBlank, Keeps, Line, last}
 use Rattle.station.specs.declared.session.SessionEnd.{SessionEnd}
 use Rattle.station.specs.declared.session.SessionEnd.TheVariants.{HungUp, LineLost}
 use Rattle.station.specs.InTurn.{IsAt, LostRaises, WireAfter}
 use Rattle.station.specs.Served.{AllFrom, OpenedNext, Served, ServedInTurn}
-use Rattle.station.specs.Sessions.{Stop, Stops, deaf, mute, silent, told}
+use Rattle.station.specs.Sessions.{Stop, Stops, deaf, decided, mute, silent, told}
+use Rattle.station.specs.Talk.{Grew, here}
 use Rattle.station.proofs.Stops.{not_lost}
 
 -- ---- what the wire is
@@ -70,19 +73,46 @@ SameFrom k first now = (j : ℕ) → k ≤ j → now.connection j ≡ first.conn
 pub same_on : {settings : Parts} {spare : ℕ} (whole first : Line) (k : ℕ) (s : Served settings spare) → OpenedNext first s.before → IsTrue first.tells → first.opened ≡ k → SameFrom k whole first → SameFrom (k + 1) whole s.after
 same_on whole first k s o t at same = λ j le. session_others first s o t j (λ e. omega (arith, e, at, le)) ∙ same j (omega (arith, le))
 
+-- an end that the terminal decided is no hang-up
+not_hung_up : (forced : Bool) → decided forced ≢ HungUp
+not_hung_up true e = absurd cc
+not_hung_up false e = absurd cc
+
+mute_not_hung_up : (b forced : Bool) → (if b then decided forced else LineLost) ≢ HungUp
+mute_not_hung_up true forced e = not_hung_up forced e
+mute_not_hung_up false forced e = absurd cc
+
+-- a session that ended because nothing was left was fed all
+all_fed : (settings : Parts) (spare : ℕ) (old new : Line) (heard fed said : List ℕ) (session : Session) (end : SessionEnd) (stop : Stop) → IsTrue old.tells → IsTrue old.is_open → Stops settings spare old new heard fed said session end stop
+    → end ≡ HungUp → fed ≡ (here old).rest
+all_fed settings spare old new heard fed said session end silent t o h e = h.all ∙ sym (h.nothing_left t o)
+all_fed settings spare old new heard fed said session end deaf t o h e = let bad : LineLost ≡ HungUp = sym h.end_is ∙ e in absurd cc
+all_fed settings spare old new heard fed said session end (told answer) t o h e = absurd (not_hung_up session.forced (sym h.end_is ∙ e))
+all_fed settings spare old new heard fed said session end (mute answer n) t o h e = absurd (mute_not_hung_up (is_end answer) session.forced (sym h.end_is ∙ e))
+
 at_each : {settings : Parts} {spare : ℕ} (whole first now : Line) (k : ℕ) (ss : List (Served settings spare)) → first.count ≡ whole.count → first.opened ≡ k → SameFrom k whole first → IsTrue first.tells → ServedInTurn first now ss
     → AllFrom (IsAt whole now) k ss
 at_each whole first now k [] count at same t h = tt
-at_each whole first now k (s ∷ ss) count at same t h =
+at_each {settings} {spare} whole first now k (s ∷ ss) count at same t h =
     let keeps = session_keeps first s h.0 in
-    let one = session_opened first s h.0 t in (
+    let one = session_opened first s h.0 t in
+    let tells : IsTrue s.before.tells = still (h.0).waited.keeps.tells t in
+    let open_now : IsTrue s.before.is_open = (h.0).is_open t in
+    let number : s.before.opened - 1 ≡ k = let e = (h.0).opened t in omega (arith, e, at) in
+    let to_hear : s.before.connection k ≡ whole.connection k = (h.0).waited.connections k ∙ same k (omega arith) in
+    let stays : now.connection k ≡ s.after.connection k = subst (λ (n : ℕ). now.connection n ≡ s.after.connection n) at (turn-stays first now s ss h t) in
+    let here_is : here s.before ≡ whole.connection k = ap (λ (n : ℕ). s.before.connection n) number ∙ to_hear in
+    let now_is : s.after.connection (last s.before) ≡ now.connection k = ap (λ (n : ℕ). s.after.connection n) number ∙ sym stays in (
       record {
         within = omega (arith, (h.0).within t, count, at);
         number = omega (arith, (h.0).opened t, at);
-        was_open = (h.0).is_open t;
+        was_open = open_now;
         blank = subst (λ (n : ℕ). IsBlank (s.before.connection n)) at ((h.0).blank t);
-        to_hear = (h.0).waited.connections k ∙ same k (omega arith);
-        stays = subst (λ (n : ℕ). now.connection n ≡ s.after.connection n) at (turn-stays first now s ss h t);
+        to_hear = to_hear;
+        stays = stays;
+        grew = subst (λ (c : Connection). Grew c (now.connection k) s.ran.heard s.ran.said s.ran.turns) here_is
+            (subst (λ (c : Connection). Grew (here s.before) c s.ran.heard s.ran.said s.ran.turns) now_is (s.ran.line.grew tells open_now));
+        all_fed = λ e. all_fed settings spare s.before s.after s.ran.heard s.ran.fed s.ran.said s.ran.session s.end s.ran.stop tells open_now s.ran.stops e ∙ ap (λ (c : Connection). c.rest) here_is;
       },
       at_each whole s.after now (k + 1) ss (keeps.count ∙ count) (omega (arith, one, at)) (same_on whole first k s h.0 t at same) (still keeps.tells t) h.1,
     )

@@ -38,7 +38,7 @@ use Rattle.station.specs.NearAir.{AreUsable}
 use Rattle.station.specs.Promises.{AcceptedWhileFit, AreAccepted, FaultPromise, FilePromise, HearNear, HearsTrial, ServedSend, StationPromise, TrialPromise, accepted_in}
 use Rattle.station.specs.ReadFile.{ReadSettings, Unreadable}
 use Rattle.station.specs.Rows.{Acts, Objects, Promises}
-use Rattle.station.specs.Served.{AllFrom, IsWhole, NextFit, Served, ServedInTurn, airs}
+use Rattle.station.specs.Served.{AllFrom, IsWhole, Served, ServedInTurn, airs}
 use Rattle.station.specs.Serving.{Around, AtAppendFault, AtFreshFault}
 use Rattle.station.specs.StationRows.{AreFileBits, KeepsAround, ServedBy, StationRow, TrialRow, with_shelf}
 

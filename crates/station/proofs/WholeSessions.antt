@@ -1,8 +1,7 @@
 -- Over a steady wire, while its connections are fit, the sessions on them are whole.
-use Rattle.std.proofs.Common.{◌≡◌, ◌≢◌, ℕ, ◌+◌, ◌-◌, ◌<◌, ◌≤◌, inl, inr, suc, Bool, true, false, List, [], ◌∷◌, ◌++◌, append-nil, append_assoc, length, length-append, IsTrue, refl, sym, ◌∙◌, ap, subst, arith}
+use Rattle.std.proofs.Common.{◌≡◌, ◌≢◌, ℕ, ◌+◌, ◌-◌, ◌≤◌, suc, Bool, true, false, List, [], ◌∷◌, ◌++◌, append-nil, append_assoc, length, length-append, IsTrue, refl, sym, ◌∙◌, ap, subst, arith}
 use Rattle.std.specs.Prelude.{◌||◌, if◌then◌else◌}
 use Rattle.std.specs.List.{AllByRecursion}
-use Rattle.std.proofs.lemmas.Bool.{cases_lt}
 use Rattle.std.proofs.lemmas.List.{map-append}
 use Rattle.std.proofs.lemmas.List.Folds.{list_any-append}
 use Rattle.subscribers.specs.Directory.{directory_of}
@@ -24,7 +23,7 @@ use Rattle.station.specs.Served.{AllFrom, FitWire, IsWhole, NextFit, OpenedNext,
 use Rattle.station.specs.Sessions.{Fits, IsAnsweredLast, SessionOf, StandsFor, Stop, Stops, deaf, decided, has_end, mute, silent, told}
 use Rattle.station.specs.Talk.{here}
 use Rattle.station.proofs.Decisions.{answers_end}
-use Rattle.station.proofs.InTurn.{SameFrom, same_on, session_keeps, session_opened, session_others, turn-keeps, turn-lost, turn-others, turn-stays, turn-within, wire_after}
+use Rattle.station.proofs.InTurn.{SameFrom, same_on, session_keeps, session_opened, session_others, turn-lost, turn-stays, turn-within, wire_after}
 use Rattle.station.proofs.Lists.{splice}
 use Rattle.station.proofs.Stops.{not_lost}
 

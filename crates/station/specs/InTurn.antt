@@ -4,11 +4,13 @@ use Rattle.std.specs.List.{AllByRecursion}
 use Rattle.subscribers.specs.Parts.{Parts}
 use Rattle.wires.specs.Causes.{Rose}
 use Rattle.wires.specs.Line.{IsBlank, Keeps, Line}
-use Rattle.station.specs.declared.session.SessionEnd.TheVariants.{LineLost}
+use Rattle.station.specs.declared.session.SessionEnd.TheVariants.{HungUp, LineLost}
 use Rattle.station.specs.Served.{AllFrom, FitWire, IsWhole, Served, ServedInTurn, ServedWhileFit, UsedWell}
+use Rattle.station.specs.Talk.{Grew}
 
 -- The session was served on the connection of this number, which is one of the wire's. It was open and blank, and what was to be heard
--- there was what it had at first. What came of it stays.
+-- there was what it had at first. What came of it stays, so what was heard and said there and the turns are those of the session. Where
+-- it ended because nothing was left, all that was to be heard was fed.
 pub record IsAt {settings : Parts} {spare : ℕ} (first now : Line) (k : ℕ) (s : Served settings spare) : Type 0 where
   pub within : k < first.count
   pub number : s.before.opened ≡ k + 1
@@ -16,6 +18,8 @@ pub record IsAt {settings : Parts} {spare : ℕ} (first now : Line) (k : ℕ) (s
   pub blank : IsBlank (s.before.connection k)
   pub to_hear : s.before.connection k ≡ first.connection k
   pub stays : now.connection k ≡ s.after.connection k
+  pub grew : Grew (first.connection k) (now.connection k) s.ran.heard s.ran.said s.ran.turns
+  pub all_fed : s.end ≡ HungUp → s.ran.fed ≡ (first.connection k).rest
 
 -- The wire opened the first of the connections that were left, one for each session, and the sessions were served there. All other
 -- connections are as they were. None is open where a session was served, or where none was open at first.
