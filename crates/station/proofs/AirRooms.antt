@@ -190,8 +190,8 @@ replies_few settings spare bytes session h =
     omega (arith, a, b, c, d, e, f, g)
 
 pub wire_fits : WireFits
-wire_fits settings spare wire t s room = record {
+wire_fits settings spare most wire t s room = record {
   tells = t;
   steady = s;
-  fits = λ k from lt session is. let a = replies_few settings spare (wire.connection k).rest session is in let b = room k from lt in omega (arith, a, b);
+  fits = λ k from lt left session is. let a = replies_few settings spare (wire.connection k).rest session is in let b = room k from lt left in omega (arith, a, b);
 }

@@ -106,7 +106,7 @@ fit_station address settings air count old s h room le = record {
   wire = λ parts e. record {
     tells = s.wire_tells;
     steady = s.wire_steady;
-    fits = λ k from lt session is.
+    fits = λ k from next lt session is.
         let a = replies_fit parts parts.cells (old.wire.connection k).rest session is in
         let b = within_sum (λ j. replies_room parts parts.cells (old.wire.connection j).rest) old.wire.count k lt in
         omega (arith, a, b, le, ap (station_by count old.wire) e);

@@ -26,6 +26,8 @@ pub mod LeftBits
 pub mod FewBits
 pub mod Trials
 pub mod Connections
+pub mod InTurn
+pub mod WholeSessions
 pub mod Servings
 pub mod Appended
 pub mod FilesRead
@@ -63,7 +65,6 @@ pub mod OneOutcomes
 pub mod OneAir
 pub mod OneBytes
 pub mod OneOfOne
-pub mod OneTalks
 pub mod OneServings
 pub mod OneStations
 pub mod OneTrials

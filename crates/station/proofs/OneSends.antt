@@ -15,6 +15,7 @@ use Rattle.wires.specs.Held.{Connection}
 use Rattle.wires.specs.Line.{Line, last}
 use Rattle.wires.specs.Written.{Written}
 use Rattle.wires.proofs.Written.{still}
+use Rattle.station.proofs.Lists.{fronts_of}
 use Rattle.station.specs.declared.outcomes.Outcome.{Outcome}
 use Rattle.station.specs.declared.outcomes.Outcome.TheVariants.{Ended, Misread, Refused}
 use Rattle.station.specs.declared.stages.Ending.{Ending}
@@ -33,7 +34,6 @@ use Rattle.station.specs.SendRows.{SendRow, SentBy}
 use Rattle.station.specs.Serving.{Around}
 use Rattle.station.specs.Talk.{IsFront, here}
 use Rattle.station.proofs.CallsUp.{next_here}
-use Rattle.station.proofs.OneTalks.{fronts_of}
 
 -- ---- what is fed
 

@@ -19,6 +19,7 @@ use Rattle.station.specs.Served.{FitOut, FitShelf, FitWire, airs}
 use Rattle.station.specs.Serving.{Around, AtDone, HasServed}
 use Rattle.station.specs.StationRows.{ServedBy, StationRow, with_shelf}
 use Rattle.station.proofs.OneServings.{done_alike}
+use Rattle.station.proofs.WholeSessions.{next_fit}
 use Rattle.station.proofs.OneSettings.{ok_and_err, one_err, one_ok}
 
 -- a shelf of which a file was read is as fit
@@ -35,10 +36,10 @@ fit_after settings spare most wire old now name file t s there h fit =
     }
 
 -- over fit objects serving comes to Done
-serves : (settings : Parts) (spare most : ℕ) (old new : Around) (address name : List ℕ) (status : Status) → FitWire settings spare old.wire → FitShelf settings spare old.wire old.shelf name most → FitOut old.out most
+serves : (settings : Parts) (spare most : ℕ) (old new : Around) (address name : List ℕ) (status : Status) → FitWire settings spare old.wire most → FitShelf settings spare old.wire old.shelf name most → FitOut old.out most
     → HasServed settings spare old new address name most status → (status ≡ Done) × AtDone settings spare old new address name most
 serves settings spare most old new address name Done wire shelf out h = (refl, h)
-serves settings spare most old new address name WireFault wire shelf out h = absurd (h.unfit wire)
+serves settings spare most old new address name WireFault wire shelf out h = absurd (h.unfit wire.tells wire.steady (next_fit old.wire new.wire most h.sessions h.few wire h.wire))
 serves settings spare most old new address name FileFault wire shelf out (inl h) = absurd (h.unfit shelf)
 serves settings spare most old new address name FileFault wire shelf out (inr h) = absurd (h.unfit shelf)
 serves settings spare most old new address name OutFault wire shelf out h = absurd (h.unfit out)

@@ -1,12 +1,17 @@
 -- What a run promises of the pages that receivers hear.
-use Rattle.std.proofs.Common.{◌≡◌, ℕ, ◌==◌, Bool, true, false, ◌||◌, ◌&&◌, map, List, [], ◌∷◌, Option, Some, None, Ok, refl, sym, ◌∙◌, ap, ap₂, subst, append-nil, eqb-true, ◌++◌, inl, inr}
+use Rattle.std.proofs.Common.{◌≡◌, ℕ, ◌+◌, ◌≤◌, ◌==◌, Bool, true, false, ◌||◌, ◌&&◌, map, List, [], ◌∷◌, length, take, drop, Option, Some, None, Ok, refl, sym, ◌∙◌, ap, ap₂, subst, append-nil, append_assoc, arith, eqb-true, ◌++◌, inl, inr}
+use Rattle.std.proofs.lemmas.List.{length-take, take-append-drop, take-map}
 use Rattle.std.proofs.lemmas.List.Elements.{All-nil, All-cons, All-head, All-tail}
 use Rattle.std.specs.Prelude.{◌⊎◌, IsTrue, All}
 use Rattle.bits.specs.Bits.{bytes_bits, xor}
 use Rattle.codeword.specs.Capcodes.{IsUsable}
 use Rattle.page_text.specs.Page.{Page, IsAcceptable}
 use Rattle.subscribers.specs.Parts.{Parts}
+use Rattle.subscribers.specs.Directory.{directory_of}
 use Rattle.subscribers.specs.Settings.{settings_of}
+use Rattle.tap_block.specs.Chars.{characters}
+use Rattle.tap_terminal.specs.Session.{Session}
+use Rattle.tap_terminal.proofs.Sessions.{one_session}
 use Rattle.air.proofs.Near.{near-airs}
 use Rattle.air.specs.Air.{IsAir}
 use Rattle.air.specs.Near.{IsAirs, Near}
@@ -19,19 +24,21 @@ use Rattle.station.specs.PageLines.{alone_from}
 use Rattle.station.proofs.GroupsHeard.{listed-alone}
 use Rattle.wires.specs.Files.{Files}
 use Rattle.wires.specs.Left.{Left}
+use Rattle.wires.specs.Line.{Line}
 use Rattle.wires.specs.Stacked.{noisy_bits}
 use Rattle.wires.specs.Written.{Written}
 use Rattle.station.proofs.AcceptablePages.{are_acceptable}
 use Rattle.station.proofs.NearAir.{near_air}
+use Rattle.station.proofs.WholeSessions.{turn-wholes}
 use Rattle.station.specs.declared.outcomes.Outcome.{Outcome}
 use Rattle.station.specs.declared.outcomes.Outcome.TheVariants.{Ended, Misread, Refused}
 use Rattle.station.specs.declared.statuses.Status.TheVariants.{Done, FileFault, OutFault, Usage, WireFault}
 use Rattle.station.specs.Commands.{AreCommand, Command, One, Play, Say, Send, Show, Station, Trial}
 use Rattle.station.specs.NearAir.{AreUsable}
-use Rattle.station.specs.Promises.{FaultPromise, FilePromise, HearNear, HearsTrial, ServedSend, StationPromise, TrialPromise, accepted_in}
+use Rattle.station.specs.Promises.{AcceptedWhileFit, AreAccepted, FaultPromise, FilePromise, HearNear, HearsTrial, ServedSend, StationPromise, TrialPromise, accepted_in}
 use Rattle.station.specs.ReadFile.{ReadSettings, Unreadable}
 use Rattle.station.specs.Rows.{Acts, Objects, Promises}
-use Rattle.station.specs.Served.{Served, airs}
+use Rattle.station.specs.Served.{AllFrom, IsWhole, Served, ServedInTurn, airs}
 use Rattle.station.specs.Serving.{Around, AtAppendFault, AtFreshFault}
 use Rattle.station.specs.StationRows.{AreFileBits, KeepsAround, ServedBy, StationRow, TrialRow, with_shelf}
 
@@ -127,34 +134,66 @@ acceptable_in bytes {settings = settings} {spare = spare} (s ∷ sessions) h =
     All-cons (All IsAcceptable) s.ran.session.pages (accepted_in sessions) (are_acceptable bytes settings spare s.ran.fed s.ran.session h s.ran.session_is)
     (acceptable_in bytes sessions h)
 
--- what sessions send that were served by the settings of a file
-served_send : (bytes : List ℕ) {settings : Parts} {spare : ℕ} (old : Around) (sessions : List (Served settings spare)) → (IsTrue old.shelf.tells → settings_of bytes ≡ Ok settings) → ServedSend old sessions
-served_send bytes old sessions read = λ t.
-    let all = acceptable_in bytes sessions (read t) in
-    record {
-      acceptable = all;
-      airs = airs_of sessions;
-      clean = near-airs (accepted_in sessions) (airs sessions) (airs_of sessions);
-      heard = λ capcodes now u near. HearNear-from capcodes now u (accepted_in sessions) all near;
-    }
+-- the pages that whole sessions accepted
+accepted_from : {settings : Parts} {spare : ℕ} (first now : Line) (k : ℕ) (sessions : List (Served settings spare)) → AllFrom (IsWhole first now) k sessions → AllFrom (AreAccepted settings spare first) k (accepted_in sessions)
+accepted_from first now k [] h = tt
+accepted_from {settings} {spare} first now k (s ∷ sessions) h = (
+  λ session is. ap (λ (z : Session). z.pages) (one_session settings.password (directory_of settings) spare (characters (first.connection k).rest) session s.ran.session is (h.0).session_is),
+  accepted_from first now (k + 1) sessions h.1,
+)
 
-fault_promise : (bytes : List ℕ) (settings : Parts) (spare : ℕ) (first old new : Around) (address name : List ℕ) (most : ℕ) (h : AtFreshFault settings spare old new name most ⊎ AtAppendFault settings spare old new address name most)
-    → (IsTrue first.shelf.tells → settings_of bytes ≡ Ok settings) → FaultPromise settings spare first old new address name most h
-fault_promise bytes settings spare first old new address name most (inl fresh) read = tt
-fault_promise bytes settings spare first old new address name most (inr fault) read = served_send bytes first fault.sessions read
+-- the first sessions of those that were served in turn
+accepted_while : {settings : Parts} {spare : ℕ} (first now : Line) (sessions more : List (Served settings spare)) → ServedInTurn first now (sessions ++ more) → IsTrue first.tells → IsTrue first.steady
+    → AcceptedWhileFit settings spare first (accepted_in sessions)
+accepted_while {settings} {spare} first now sessions more h t st n fit =
+    let cut : take n sessions ++ (drop n sessions ++ more) ≡ sessions ++ more =
+    sym (append_assoc (take n sessions) (drop n sessions) more) ∙ ap (λ (l : List (Served settings spare)). l ++ more) (take-append-drop n sessions) in
+    let turn = subst (λ (l : List (Served settings spare)). ServedInTurn first now l) (sym cut) h in
+    let few : length (take n sessions) ≤ n = simp length-take (omega arith) in
+    let whole = turn-wholes first now (take n sessions) (drop n sessions ++ more) turn t st (λ k from lt. fit k from (omega (arith, lt, few))) in
+    subst (λ (l : List (List Page)). AllFrom (AreAccepted settings spare first) first.opened l) (sym (take-map (λ (s : Served settings spare). s.ran.session.pages) n sessions))
+    (accepted_from first now first.opened (take n sessions) whole)
+
+-- what sessions send that were served by the settings of a file
+served_send : (bytes : List ℕ) {settings : Parts} {spare : ℕ} (old : Around) (now : Line) (sessions more : List (Served settings spare)) → ServedInTurn old.wire now (sessions ++ more) → (IsTrue old.shelf.tells → settings_of bytes ≡ Ok settings)
+    → ServedSend old sessions
+served_send bytes old now sessions more turn read = record {
+  sends = λ t.
+      let all = acceptable_in bytes sessions (read t) in
+      record {
+        acceptable = all;
+        airs = airs_of sessions;
+        clean = near-airs (accepted_in sessions) (airs sessions) (airs_of sessions);
+        heard = λ capcodes now u near. HearNear-from capcodes now u (accepted_in sessions) all near;
+      };
+  whole = λ t st. accepted_while old.wire now sessions more turn t st;
+}
+
+-- where these are all
+all_send : (bytes : List ℕ) {settings : Parts} {spare : ℕ} (old : Around) (now : Line) (sessions : List (Served settings spare)) → ServedInTurn old.wire now sessions → (IsTrue old.shelf.tells → settings_of bytes ≡ Ok settings)
+    → ServedSend old sessions
+all_send bytes {settings = settings} {spare = spare} old now sessions turn read =
+    served_send bytes old now sessions [] (subst (λ (l : List (Served settings spare)). ServedInTurn old.wire now l) (sym (append-nil sessions)) turn) read
+
+fault_promise : (bytes : List ℕ) (settings : Parts) (spare : ℕ) (first : Around) (files : Files) (new : Around) (address name : List ℕ) (most : ℕ)
+    (h : AtFreshFault settings spare (with_shelf first files) new name most ⊎ AtAppendFault settings spare (with_shelf first files) new address name most)
+    → (IsTrue first.shelf.tells → settings_of bytes ≡ Ok settings) → FaultPromise settings spare first (with_shelf first files) new address name most h
+fault_promise bytes settings spare first files new address name most (inl fresh) read = tt
+fault_promise bytes settings spare first files new address name most (inr fault) read = served_send bytes first new.wire fault.sessions (fault.unsent ∷ []) fault.wire read
 
 file_promise : (address settings air : List ℕ) (count : ℕ) (old new : Around) (row : (Unreadable settings old.shelf new.shelf × KeepsAround old new) ⊎ ServedBy address settings air count old new FileFault)
     → FilePromise address settings air count old new row
 file_promise address settings air count old new (inl unread) = tt
-file_promise address settings air count old new (inr by) = fault_promise (old.shelf.file settings) by.parts by.parts.cells old (with_shelf old by.shelf) new address air count by.served by.read.settings_are
+file_promise address settings air count old new (inr by) = fault_promise (old.shelf.file settings) by.parts by.parts.cells old by.shelf new address air count by.served by.read.settings_are
 
 station_promise : (address settings air : List ℕ) (count : ℕ) (old new : Around) (outcome : Outcome) (row : StationRow address settings air count old new outcome)
     → StationPromise address settings air count old new outcome row
 station_promise address settings air count old new (Refused fault) row = tt
 station_promise address settings air count old new (Misread fault) row = tt
-station_promise address settings air count old new (Ended Done) row = served_send (old.shelf.file settings) old row.served.sessions row.read.settings_are
-station_promise address settings air count old new (Ended WireFault) row = served_send (old.shelf.file settings) old row.served.sessions row.read.settings_are
-station_promise address settings air count old new (Ended OutFault) row = served_send (old.shelf.file settings) old (row.served.sessions ++ row.served.unreported ∷ []) row.read.settings_are
+station_promise address settings air count old new (Ended Done) row = all_send (old.shelf.file settings) old new.wire row.served.sessions row.served.wire row.read.settings_are
+station_promise address settings air count old new (Ended WireFault) row = all_send (old.shelf.file settings) old new.wire row.served.sessions row.served.wire row.read.settings_are
+station_promise address settings air count old new (Ended OutFault) row =
+    all_send (old.shelf.file settings) old new.wire (row.served.sessions ++ row.served.unreported ∷ []) row.served.wire row.read.settings_are
 station_promise address settings air count old new (Ended FileFault) row = file_promise address settings air count old new row
 station_promise address settings air count old new (Ended status) row = tt
 

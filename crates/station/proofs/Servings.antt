@@ -21,7 +21,9 @@ use Rattle.station.specs.ReportLine.{longest_line, report_line}
 use Rattle.station.specs.Served.{FileAfter, FitOut, FitShelf, Served, airs, line_for, lines}
 use Rattle.station.specs.Serving.{Around, AtAppendFault, AtDone, AtFreshFault, AtOutFault, AtWireFault, SendsTo, SoFar}
 use Rattle.station.specs.Sessions.{Closes, Ran, StandsFor}
-use Rattle.station.proofs.Connections.{airs-append, lines-append, waited_listen, waited_next, well_more, wire_begins, wire_more, wire_same}
+use Rattle.station.proofs.Connections.{airs-append, came, lines-append, listened, next_failed, none_came, turn-append, turn-wait}
+use Rattle.station.proofs.InTurn.{turn-keeps, turn-shut}
+use Rattle.station.proofs.WholeSessions.{turn-while_fit}
 
 -- a session that was served and sent
 abbrev pub made : {T E : Type 0} (settings : Parts) (spare : ℕ) (mid after : Line) (empty pool pool2 : Pool) (desk : Desk) (end : SessionEnd) (f f2 : Files) (name : List ℕ) (r : Result T E)
@@ -76,16 +78,10 @@ abbrev pub at_done : {E : Type 0} (settings : Parts) (spare most : ℕ) (first :
 at_done settings spare most first w mid f o address name pool ss so few h = record {
   sessions = ss;
   few = few;
-  wire = wire_same first.wire w mid ss so.wire (waited_next w mid (Ok false) h) (λ t. h.not_opened t refl);
+  wire = turn-wait first.wire w mid ss so.wire (none_came w mid h);
   asked = λ t. h.asked ∙ so.asked t;
-  shut = λ t _. (h.not_opened (still so.wire.tells t) refl).1;
-  well = λ fit. let b = so.well fit in record {
-    hear = h.others.hear ∙ b.hear;
-    say = h.others.say ∙ b.say;
-    hang = h.others.hang ∙ b.hang;
-    steady = (h.steady (still so.wire.tells fit.tells) b.steady).1;
-    none_lost = b.none_lost;
-  };
+  shut = λ t _. (h.not_opened (still (turn-keeps first.wire w ss so.wire).tells t) refl).1;
+  well = λ t st. turn-while_fit first.wire mid ss (turn-wait first.wire w mid ss so.wire (none_came w mid h)) t st;
   file = so.file;
   file_well = so.file_well;
   out = so.out;
@@ -93,7 +89,7 @@ at_done settings spare most first w mid f o address name pool ss so few h = reco
   gate = h.cause.kept ∙ so.gate;
   shelf_faults = so.shelf_faults;
   out_faults = so.out_faults;
-  all = inr (λ t. let q = (h.none (still so.wire.tells t)).0 refl in omega (arith, q, (h.not_opened (still so.wire.tells t) refl).0, h.keeps.count));
+  all = inr (λ t. let told = still (turn-keeps first.wire w ss so.wire).tells t in let q = (h.none told).0 refl in omega (arith, q, (h.not_opened told refl).0, h.keeps.count));
 }
 
 -- `next` failed
@@ -102,9 +98,10 @@ abbrev pub at_wire_fault : {E : Type 0} (settings : Parts) (spare most : ℕ) (f
 at_wire_fault {E} settings spare most first w mid f o address name pool e ss so few h = record {
   sessions = ss;
   few = few;
-  wire = wire_same first.wire w mid ss so.wire (waited_next w mid (Err e) h) h.failed;
+  wire = turn-wait first.wire w mid ss so.wire (next_failed w mid e h);
   asked = λ t. h.asked ∙ so.asked t;
-  unfit = λ fit. no_ok Bool E e (h.steady (still so.wire.tells fit.tells) (so.well fit).steady).0;
+  well = λ t st. turn-while_fit first.wire mid ss (turn-wait first.wire w mid ss so.wire (next_failed w mid e h)) t st;
+  unfit = λ t st fit. no_ok Bool E e (h.steady (still (turn-keeps first.wire w ss so.wire).tells t) ((turn-while_fit first.wire w ss so.wire t st).all fit).steady).0;
   file = so.file;
   file_well = so.file_well;
   out = so.out;
@@ -119,7 +116,7 @@ pub append_fits : {T E F : Type 0} (settings : Parts) (spare most : ℕ) (first 
     → SoFar first (record { wire = w; shelf = f; out = o }) address name most pool ss → length ss + 1 ≤ most → Opens {E = F} w s.before (Ok true) → (sends : SendsTo pool1 pool2 f f2 name r) → s.bits ≡ sends.bits
     → FitShelf settings spare first.wire first.shelf name most → length sends.bits ≤ 8 * f.room name
 append_fits settings spare most first w f f2 o address name pool pool1 pool2 r ss s so few h sends same fit =
-    let total : length (airs (ss ++ s ∷ [])) ≤ 8 * first.shelf.fresh_room = fit.fits s.after (ss ++ s ∷ []) (wire_more first.wire w ss s so.wire h) (omega (arith, few, length-append ss (s ∷ []))) in
+    let total : length (airs (ss ++ s ∷ [])) ≤ 8 * first.shelf.fresh_room = fit.fits s.after (ss ++ s ∷ []) (turn-append first.wire w ss s so.wire (came w s.before h)) (omega (arith, few, length-append ss (s ∷ []))) in
     let split : length (airs (ss ++ s ∷ [])) ≡ length (airs ss) + length sends.bits = ap length (airs-append ss s) ∙ (length-append (airs ss) s.bits ∙ ap (λ (b : List Bool). length (airs ss) + length b) same) in
     let room : 8 * f.room name + length (airs ss) ≡ 8 * first.shelf.fresh_room = so.file.room fit.tells in
     omega (arith, total, split, room)
@@ -138,9 +135,9 @@ at_append_fault {T} {E} settings spare most first w mid after f f2 o address nam
       unsent = s;
       front = take cut.0 sends.bits;
       few = omega (arith, few, length-append ss (s ∷ []));
-      wire = wire_more first.wire w ss s so.wire h;
+      wire = turn-append first.wire w ss s so.wire (came w mid h);
       asked = λ t. ran.line.asked ∙ (h.asked ∙ so.asked t);
-      well = well_more first.wire w ss s so.wire h so.well;
+      well = λ t st. turn-while_fit first.wire after (ss ++ s ∷ []) (turn-append first.wire w ss s so.wire (came w mid h)) t st;
       front_is = record { rest = drop cut.0 sends.bits; is = sym (take-append-drop cut.0 sends.bits) };
       file = record {
         tells = sends.tells ∙ so.file.tells;
@@ -207,9 +204,9 @@ at_out_fault {T} {U} {E} settings spare most first w mid after f f2 o o2 address
       unreported = s;
       front = front;
       few = omega (arith, num, few, length-append ss (s ∷ []));
-      wire = wire_more first.wire w ss s so.wire h;
+      wire = turn-append first.wire w ss s so.wire (came w mid h);
       asked = λ t. ran.line.asked ∙ (h.asked ∙ so.asked t);
-      well = well_more first.wire w ss s so.wire h so.well;
+      well = λ t st. turn-while_fit first.wire after (ss ++ s ∷ []) (turn-append first.wire w ss s so.wire (came w mid h)) t st;
       file = file_more settings spare first.shelf f f2 name pool pool2 x ss s so.file sends refl;
       file_well = λ fit. (sends.steady (still so.file.tells fit.tells) (so.file_well fit) (so.file.fresh fit.tells) (append_fits settings spare most first w f f2 o address name empty pool pool2 (Ok x) ss s so (omega (arith, num, few)) h sends refl fit)).1;
       front_is = record {
@@ -253,9 +250,8 @@ one_more settings spare most first w mid after f f2 o o2 address name empty pool
     λ t. puts.held (told t) ∙ (ap (λ (z : List ℕ). z ++ report_line number end report) (so.out.held t) ∙ (append_assoc first.out.held (lines 1 ss) (report_line number end report) ∙ ap (λ (z : List ℕ). first.out.held ++ z) (sym more))) in (
       ss ++ s ∷ [],
       record {
-        wire = wire_more first.wire w ss s so.wire h;
+        wire = turn-append first.wire w ss s so.wire (came w mid h);
         asked = λ t. ran.line.asked ∙ (h.asked ∙ so.asked t);
-        well = well_more first.wire w ss s so.wire h so.well;
         file = file_more settings spare first.shelf f f2 name pool pool2 x ss s so.file sends refl;
         file_well = λ fit. (sends.steady (still so.file.tells fit.tells) (so.file_well fit) (so.file.fresh fit.tells) (append_fits settings spare most first w f f2 o address name empty pool pool2 (Ok x) ss s so (omega (arith, num, few)) h sends refl fit)).1;
         out = record {
@@ -314,9 +310,10 @@ abbrev pub at_listen : {T E F : Type 0} (settings : Parts) (spare most : ℕ) (w
 at_listen {T} {E} {F} settings spare most w0 w f0 f o address name x e fr h = record {
   sessions = [];
   few = omega arith;
-  wire = wire_begins w0 w (waited_listen w0 w address (Err e) h) h.opened h.is_open;
+  wire = listened w0 w address (Err e) h;
   asked = h.asked;
-  unfit = λ fit. no_ok T F e (h.steady fit.tells fit.steady).0;
+  well = λ t st. turn-while_fit w0 w [] (listened w0 w address (Err e) h) t st;
+  unfit = λ t st _. no_ok T F e (h.steady t st).0;
   file = file_begins f0 f name x fr;
   file_well = λ fit. (fr.steady fit.tells fit.steady fit.proper).1;
   out = record { tells = refl; held = λ _. sym (append-nil o.held); room = λ _. omega arith; lent = refl };
@@ -330,9 +327,8 @@ at_listen {T} {E} {F} settings spare most w0 w f0 f o address name x e fr h = re
 pub begun : {T U E F : Type 0} (settings : Parts) (spare most : ℕ) (w0 w : Line) (f0 f : Files) (o : Written ℕ) (address name : List ℕ) (pool : Pool) (x : T) (y : U) → Freshens {E = E} f0 f name (Ok x) → Listens {E = F} w0 w address (Ok y) → pool.live ≡ [] → pool.spare ≡ spare
     → SoFar {settings = settings} {spare = spare} (record { wire = w0; shelf = f0; out = o }) (record { wire = w; shelf = f; out = o }) address name most pool []
 begun settings spare most w0 w f0 f o address name pool x y fr h none all = record {
-  wire = wire_begins w0 w (waited_listen w0 w address (Ok y) h) h.opened h.is_open;
+  wire = listened w0 w address (Ok y) h;
   asked = h.asked;
-  well = λ fit. record { hear = h.others.hear; say = h.others.say; hang = h.others.hang; steady = (h.steady fit.tells fit.steady).1; none_lost = tt };
   file = file_begins f0 f name x fr;
   file_well = λ fit. (fr.steady fit.tells fit.steady fit.proper).1;
   out = record { tells = refl; held = λ _. sym (append-nil o.held); room = λ _. omega arith; lent = refl };
@@ -353,8 +349,8 @@ all_served settings spare most first now address name pool ss so n = record {
   all = inl n;
   wire = so.wire;
   asked = so.asked;
-  shut = λ t d. so.wire.shut t (elim d [ inl some ↦ inl (omega (arith, some, n)) | inr f ↦ inr f ]);
-  well = so.well;
+  shut = λ t d. turn-shut first.wire now.wire ss so.wire t (elim d [ inl some ↦ inl (omega (arith, some, n)) | inr f ↦ inr f ]);
+  well = λ t st. turn-while_fit first.wire now.wire ss so.wire t st;
   file = so.file;
   file_well = so.file_well;
   out = so.out;

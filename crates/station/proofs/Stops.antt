@@ -22,7 +22,7 @@ use Rattle.station.proofs.Steps.{all_fed, fits_now, heard_rest, session_stood, s
 use Rattle.station.proofs.Talks.{calm_hears, calm_says, no_cut, no_deaf, talked_cut, talked_deaf, talked_says, talked_silent}
 
 -- an end that the terminal decided is no lost line
-not_lost : (forced : Bool) → decided forced ≢ LineLost
+pub not_lost : (forced : Bool) → decided forced ≢ LineLost
 not_lost true e = absurd cc
 not_lost false e = absurd cc
 

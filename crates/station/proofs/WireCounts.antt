@@ -1,5 +1,5 @@
 -- A run leaves a wire as many connections as it had.
-use Rattle.std.proofs.Common.{◌≡◌, inl, inr, ℕ, List, Option, Some, None, ◌∙◌, ap}
+use Rattle.std.proofs.Common.{◌≡◌, inl, inr, ℕ, List, [], ◌∷◌, ◌++◌, Option, Some, None, ◌∙◌, ap}
 use Rattle.subscribers.specs.Parts.{Parts}
 use Rattle.station.specs.declared.outcomes.Outcome.{Outcome}
 use Rattle.station.specs.declared.outcomes.Outcome.TheVariants.{Ended, Misread, Refused}
@@ -17,13 +17,14 @@ use Rattle.station.specs.Commands.{Command, One, Play, Send, Show, Station, Tria
 use Rattle.station.specs.Rows.{Acts, Came, Objects, Outside, Runs}
 use Rattle.station.specs.Serving.{Around, HasServed}
 use Rattle.station.specs.StationRows.{StationRow, with_shelf}
+use Rattle.station.proofs.InTurn.{turn-keeps}
 
 count-served : (settings : Parts) (spare : ℕ) (old new : Around) (address name : List ℕ) (most : ℕ) (status : Status) → HasServed settings spare old new address name most status → new.wire.count ≡ old.wire.count
-count-served settings spare old new address name most Done h = h.wire.count
-count-served settings spare old new address name most WireFault h = h.wire.count
+count-served settings spare old new address name most Done h = (turn-keeps old.wire new.wire h.sessions h.wire).count
+count-served settings spare old new address name most WireFault h = (turn-keeps old.wire new.wire h.sessions h.wire).count
 count-served settings spare old new address name most FileFault (inl h) = ap (λ wire. wire.count) h.wire
-count-served settings spare old new address name most FileFault (inr h) = h.wire.count
-count-served settings spare old new address name most OutFault h = h.wire.count
+count-served settings spare old new address name most FileFault (inr h) = (turn-keeps old.wire new.wire (h.sessions ++ h.unsent ∷ []) h.wire).count
+count-served settings spare old new address name most OutFault h = (turn-keeps old.wire new.wire (h.sessions ++ h.unreported ∷ []) h.wire).count
 count-served settings spare old new address name most other h = elim h [ ]
 
 count-station : (address settings air : List ℕ) (count : ℕ) (old new : Around) (outcome : Outcome) → StationRow address settings air count old new outcome → new.wire.count ≡ old.wire.count

@@ -21,10 +21,11 @@ abbrev pub ShelfFits : Type 0
 ShelfFits = (settings : Parts) (spare most : ℕ) (wire : Line) (shelf : Files) (name : List ℕ) → IsTrue wire.tells → IsTrue shelf.tells → IsTrue shelf.steady
     → (IsTrue (shelf.there name) ⊎ (IsTrue shelf.further × (length name ≤ longest_name))) → most * most_air spare ≤ shelf.fresh_room → FitShelf settings spare wire shelf name most
 
--- A steady wire is fit where each connection that is left has room for six bytes for each that is to be heard there, and six more.
+-- A steady wire is fit for so many connections where each of the next ones has room for six bytes for each that is to be heard there, and
+-- six more.
 abbrev pub WireFits : Type 0
-WireFits = (settings : Parts) (spare : ℕ) (wire : Line) → IsTrue wire.tells → IsTrue wire.steady
-    → ((k : ℕ) → wire.opened ≤ k → k < wire.count → 6 * length (wire.connection k).rest + 6 ≤ (wire.connection k).room) → FitWire settings spare wire
+WireFits = (settings : Parts) (spare most : ℕ) (wire : Line) → IsTrue wire.tells → IsTrue wire.steady
+    → ((k : ℕ) → wire.opened ≤ k → k < wire.opened + most → k < wire.count → 6 * length (wire.connection k).rest + 6 ≤ (wire.connection k).room) → FitWire settings spare wire most
 
 -- the most bytes that a client says for so many pages, where so many bytes are to be heard
 abbrev pub most_said : ℕ → ℕ → ℕ

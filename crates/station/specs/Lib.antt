@@ -11,6 +11,7 @@ pub mod ReportLine
 pub mod Rows
 pub mod Sends
 pub mod Served
+pub mod InTurn
 pub mod Serving
 pub mod Leaves
 pub mod Sessions

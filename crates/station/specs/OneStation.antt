@@ -14,7 +14,7 @@ pub record FitStation (settings air : List ℕ) (count : ℕ) (old : Around) : T
   pub tells : IsTrue old.shelf.tells
   pub steady : IsTrue old.shelf.steady
   pub there : IsTrue (old.shelf.there settings)
-  pub wire : (parts : Parts) → settings_of (old.shelf.file settings) ≡ Ok parts → FitWire parts parts.cells old.wire
+  pub wire : (parts : Parts) → settings_of (old.shelf.file settings) ≡ Ok parts → FitWire parts parts.cells old.wire count
   pub shelf : (parts : Parts) → settings_of (old.shelf.file settings) ≡ Ok parts → FitShelf parts parts.cells old.wire old.shelf air count
   pub out : FitOut old.out count
 

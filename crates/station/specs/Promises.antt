@@ -1,5 +1,5 @@
 -- What a run promises of the pages that receivers hear.
-use Rattle.std.specs.Prelude.{◌≡◌, ℕ, ◌≤◌, ◌⊎◌, Bool, false, List, [], ◌∷◌, ◌++◌, map, IsTrue, All}
+use Rattle.std.specs.Prelude.{◌≡◌, ℕ, ◌≤◌, ◌⊎◌, Bool, false, List, [], ◌∷◌, ◌++◌, map, take, IsTrue, All}
 use Rattle.std.proofs.Common.{inl, inr}
 use Rattle.bits.specs.Bits.{bytes_bits}
 use Rattle.page_text.specs.Page.{Page, IsAcceptable}
@@ -8,8 +8,10 @@ use Rattle.receiver.specs.Listeners.{is_one_of}
 use Rattle.receiver.specs.Receivers.{is_paired, most_receivers}
 use Rattle.receiver.specs.Shown.{pages_in, pages_of_frame, shown_by}
 use Rattle.subscribers.specs.Parts.{Parts}
+use Rattle.tap_terminal.specs.Session.{Session}
 use Rattle.wires.specs.Files.{Files}
 use Rattle.wires.specs.Left.{Left}
+use Rattle.wires.specs.Line.{Line}
 use Rattle.wires.specs.Stacked.{noisy_bits}
 use Rattle.wires.specs.Written.{Written}
 use Rattle.station.specs.declared.outcomes.Outcome.{Outcome}
@@ -17,9 +19,10 @@ use Rattle.station.specs.declared.outcomes.Outcome.TheVariants.{Ended}
 use Rattle.station.specs.declared.statuses.Status.TheVariants.{Done, FileFault, OutFault, WireFault}
 use Rattle.station.specs.NearAir.{AreUsable, joined}
 use Rattle.station.specs.PageLines.{alone_from, pairs_heard}
-use Rattle.station.specs.Served.{Served, airs}
+use Rattle.station.specs.Served.{AllFrom, NextFit, Served, airs}
 use Rattle.station.specs.ReadFile.{Unreadable}
 use Rattle.station.specs.Serving.{Around, AtAppendFault, AtFreshFault}
+use Rattle.station.specs.Sessions.{SessionOf}
 use Rattle.station.specs.StationRows.{KeepsAround, ServedBy, StationRow, TrialRow, with_shelf}
 
 -- What each receiver, by its number, prints of each frame are exactly the pages of its capcodes in these lists, in order, each with its
@@ -59,9 +62,20 @@ pub record SendsAccepted (lists : List (List Page)) (bits : List Bool) : Type 0 
   pub clean : Near lists bits
   pub heard : (capcodes : List ℕ) (now : List Bool) → AreUsable (is_one_of capcodes) → Near lists now → HearLists capcodes lists now
 
--- sessions that were served send what they accepted
-abbrev pub ServedSend : {settings : Parts} {spare : ℕ} → Around → List (Served settings spare) → Type 0
-ServedSend old sessions = IsTrue old.shelf.tells → SendsAccepted (accepted_in sessions) (airs sessions)
+-- these are the pages of the session of all that is to be heard on the connection of this number
+abbrev pub AreAccepted : Parts → ℕ → Line → ℕ → List Page → Type 0
+AreAccepted settings spare wire k pages = (session : Session) → SessionOf settings spare (wire.connection k).rest session → session.pages ≡ pages
+
+-- As long as the next connections have room for the replies, the first of these lists are the pages of their sessions, whatever happens
+-- on connections behind them.
+abbrev pub AcceptedWhileFit : Parts → ℕ → Line → List (List Page) → Type 0
+AcceptedWhileFit settings spare wire lists = (n : ℕ) → NextFit settings spare wire n → AllFrom (AreAccepted settings spare wire) wire.opened (take n lists)
+
+-- Sessions that were served send what they accepted. Over a steady wire, while its connections are fit, that is what the sessions of all
+-- that was to be heard accept.
+pub record ServedSend {settings : Parts} {spare : ℕ} (old : Around) (sessions : List (Served settings spare)) : Type 0 where
+  pub sends : IsTrue old.shelf.tells → SendsAccepted (accepted_in sessions) (airs sessions)
+  pub whole : IsTrue old.wire.tells → IsTrue old.wire.steady → AcceptedWhileFit settings spare old.wire (accepted_in sessions)
 
 -- where an append failed, this holds of the sessions before the last one
 abbrev pub FaultPromise : (settings : Parts) (spare : ℕ) (first old new : Around) (address name : List ℕ) (most : ℕ)

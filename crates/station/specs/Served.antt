@@ -1,18 +1,19 @@
 -- The sessions that a station served on the connections of a wire, one after another, and what came of them.
-use Rattle.std.specs.Prelude.{◌≡◌, ◌≢◌, ℕ, ◌+◌, ◌*◌, ◌<◌, ◌≤◌, ◌⊎◌, Bool, List, [], ◌∷◌, ◌++◌, length, flat_map, IsTrue, IsFalse}
+use Rattle.std.specs.Prelude.{◌≡◌, ◌≢◌, ℕ, ◌+◌, ◌*◌, ◌<◌, ◌≤◌, ◌⊎◌, Bool, List, [], ◌∷◌, ◌++◌, length, flat_map, IsTrue, IsFalse, if◌then◌else◌}
 use Rattle.air.specs.Air.{IsAir}
 use Rattle.bits.specs.Bits.{bytes_bits}
 use Rattle.page_pool.specs.Pool.{Pool}
 use Rattle.subscribers.specs.Parts.{Parts}
 use Rattle.tap_terminal.specs.Desk.{Desk}
+use Rattle.tap_terminal.specs.Replies.{replies}
 use Rattle.wires.specs.Files.{Files, SameAt, longest_name}
 use Rattle.wires.specs.Line.{IsBlank, Keeps, KeepsConnections, KeepsLineAndHang, Line}
 use Rattle.wires.specs.Stacked.{are_bytes}
 use Rattle.wires.specs.Written.{Written}
 use Rattle.station.specs.declared.session.SessionEnd.{SessionEnd}
-use Rattle.station.specs.declared.session.SessionEnd.TheVariants.{LineLost}
+use Rattle.station.specs.declared.session.SessionEnd.TheVariants.{HungUp}
 use Rattle.station.specs.ReportLine.{longest_line, report_line}
-use Rattle.station.specs.Sessions.{Closes, Fits, Ran}
+use Rattle.station.specs.Sessions.{Closes, Fits, Ran, SessionOf, decided, has_end}
 
 -- A session that was served, with the wire before and after it, and the bits of the transmission of its pages. The pool was empty
 -- before it.
@@ -47,16 +48,6 @@ abbrev pub AllFrom : {A : Type 0} → (ℕ → A → Type 0) → ℕ → List A 
 AllFrom P number [] = Unit {0}
 AllFrom P number (x ∷ xs) = P number x × AllFrom P (number + 1) xs
 
--- The session was served on the connection of this number, which is one of the wire's. It was open and blank, and what was to be heard
--- there was what it had at first. What came of it stays.
-pub record IsAt {settings : Parts} {spare : ℕ} (first now : Line) (k : ℕ) (s : Served settings spare) : Type 0 where
-  pub within : k < first.count
-  pub number : s.before.opened ≡ k + 1
-  pub was_open : IsTrue s.before.is_open
-  pub blank : IsBlank (s.before.connection k)
-  pub to_hear : s.before.connection k ≡ first.connection k
-  pub stays : now.connection k ≡ s.after.connection k
-
 -- Only waits for a connection lie between: no connection changed, and no count of faults but the gate's. A steady wire is steady.
 pub record Waited (old new : Line) : Type 0 where
   pub keeps : Keeps old new
@@ -64,23 +55,25 @@ pub record Waited (old new : Line) : Type 0 where
   pub counts : KeepsLineAndHang old new
   pub steady : IsTrue old.tells → IsTrue old.steady → IsTrue new.steady
 
--- The sessions were served on one wire, one after another: the first where the wire was at first, each further one where the one before
--- it left the wire, and the last left it as it is now. Between them are only waits.
-abbrev pub Chain : {settings : Parts} {spare : ℕ} → Line → Line → List (Served settings spare) → Type 0
-Chain first now [] = Waited first now
-Chain first now (s ∷ ss) = Waited first s.before × Chain s.after now ss
+-- Waiting opened the next of the connections that were left, which is blank.
+pub record OpenedNext (old new : Line) : Type 0 where
+  pub waited : Waited old new
+  pub within : IsTrue old.tells → old.opened < old.count
+  pub opened : IsTrue old.tells → new.opened ≡ old.opened + 1
+  pub is_open : IsTrue old.tells → IsTrue new.is_open
+  pub blank : IsTrue old.tells → IsBlank (new.connection old.opened)
 
--- The wire opened the first of the connections that were left, one for each session, and the sessions were served there. All other
--- connections are as they were. None is open where a session was served, or where none was open at first.
-pub record WireAfter {settings : Parts} {spare : ℕ} (first now : Line) (sessions : List (Served settings spare)) : Type 0 where
-  pub tells : now.tells ≡ first.tells
-  pub count : now.count ≡ first.count
-  pub lent : now.lent ≡ first.lent
-  pub chain : Chain first now sessions
-  pub opened : IsTrue first.tells → now.opened ≡ first.opened + length sessions
-  pub others : IsTrue first.tells → (k : ℕ) → (k < first.opened ⊎ first.opened + length sessions ≤ k) → now.connection k ≡ first.connection k
-  pub served : IsTrue first.tells → AllFrom (IsAt first now) first.opened sessions
-  pub shut : IsTrue first.tells → (0 < length sessions ⊎ IsFalse first.is_open) → IsFalse now.is_open
+-- Waiting opened no connection.
+pub record OpenedNone (old new : Line) : Type 0 where
+  pub waited : Waited old new
+  pub opened : IsTrue old.tells → new.opened ≡ old.opened
+  pub shut : IsTrue old.tells → IsFalse old.is_open → IsFalse new.is_open
+
+-- The sessions were served on one wire, one after another, each on the next of its connections: the first where the wire was at first,
+-- each further one where the one before it left the wire. After the last one no further connection was opened.
+abbrev pub ServedInTurn : {settings : Parts} {spare : ℕ} → Line → Line → List (Served settings spare) → Type 0
+ServedInTurn first now [] = OpenedNone first now
+ServedInTurn first now (s ∷ ss) = OpenedNext first s.before × ServedInTurn s.after now ss
 
 -- The file holds bytes with these bits, and its room is lower by what it holds. All other files are as they were, and so is the room of a fresh file.
 -- The further file is used up where the name was not there.
@@ -104,11 +97,12 @@ pub record OutAfter (old now : Written ℕ) (bytes : List ℕ) : Type 0 where
   pub room : IsTrue old.tells → now.room + length bytes ≡ old.room
   pub lent : now.lent ≡ old.lent
 
--- The wire is steady, and each connection that is left has room for the replies to all that is to be heard there.
-pub record FitWire (settings : Parts) (spare : ℕ) (wire : Line) : Type 0 where
+-- The wire is steady, and each of its next connections, so many or all that are left, has room for the replies to all that is to be heard
+-- there.
+pub record FitWire (settings : Parts) (spare : ℕ) (wire : Line) (most : ℕ) : Type 0 where
   pub tells : IsTrue wire.tells
   pub steady : IsTrue wire.steady
-  pub fits : (k : ℕ) → wire.opened ≤ k → k < wire.count → Fits settings spare (wire.connection k)
+  pub fits : (k : ℕ) → wire.opened ≤ k → k < wire.opened + most → k < wire.count → Fits settings spare (wire.connection k)
 
 -- The shelf is steady, the file is there or may be added, and a fresh one has room for the transmissions of whatever sessions may be
 -- served on as many connections as this.
@@ -117,7 +111,7 @@ pub record FitShelf (settings : Parts) (spare : ℕ) (wire : Line) (shelf : File
   pub steady : IsTrue shelf.steady
   pub proper : IsTrue (shelf.there name) ⊎ (IsTrue shelf.further × (length name ≤ longest_name))
   pub told : IsTrue wire.tells
-  pub fits : (now : Line) (sessions : List (Served settings spare)) → WireAfter wire now sessions → length sessions ≤ most → length (airs sessions) ≤ 8 * shelf.fresh_room
+  pub fits : (now : Line) (sessions : List (Served settings spare)) → ServedInTurn wire now sessions → length sessions ≤ most → length (airs sessions) ≤ 8 * shelf.fresh_room
 
 -- The output is steady, and has room for so many lines.
 pub record FitOut (out : Written ℕ) (most : ℕ) : Type 0 where
@@ -125,15 +119,24 @@ pub record FitOut (out : Written ℕ) (most : ℕ) : Type 0 where
   pub steady : IsTrue out.steady
   pub fits : most * longest_line ≤ out.room
 
--- no session was lost
-abbrev pub NoneLost : {settings : Parts} {spare : ℕ} → List (Served settings spare) → Type 0
-NoneLost [] = Unit {0}
-NoneLost (s ∷ ss) = (s.end ≢ LineLost) × NoneLost ss
+-- the next connections, so many, have room for the replies to all that is to be heard there
+abbrev pub NextFit : Parts → ℕ → Line → ℕ → Type 0
+NextFit settings spare wire n = (k : ℕ) → wire.opened ≤ k → k < wire.opened + n → Fits settings spare (wire.connection k)
 
--- No hear, say and hang-up failed, and no session was lost.
-pub record WellServed {settings : Parts} {spare : ℕ} (first now : Line) (sessions : List (Served settings spare)) : Type 0 where
-  pub hear : now.hear ≡ first.hear
-  pub say : now.say ≡ first.say
-  pub hang : now.hang ≡ first.hang
-  pub steady : IsTrue now.steady
-  pub none_lost : NoneLost sessions
+-- The session on the connection of this number is that of all that was to be heard there, and all its replies were said.
+pub record IsWhole {settings : Parts} {spare : ℕ} (first now : Line) (k : ℕ) (s : Served settings spare) : Type 0 where
+  pub session_is : SessionOf settings spare (first.connection k).rest s.ran.session
+  pub said : (now.connection k).said ≡ (first.connection k).said ++ replies s.ran.session.answers
+  pub end_is : s.end ≡ (if has_end s.ran.session.answers then decided s.ran.session.forced else HungUp)
+
+-- No hear, say and hang-up failed, and the wire is steady.
+pub record UsedWell (old new : Line) : Type 0 where
+  pub counts : KeepsLineAndHang old new
+  pub steady : IsTrue new.steady
+
+-- Each session whose connection is fit, as are those before it, is whole, and up to its end no hear, say and hang-up failed. Where the
+-- connections of all sessions are fit, none failed.
+pub record ServedWhileFit {settings : Parts} {spare : ℕ} (first now : Line) (sessions : List (Served settings spare)) : Type 0 where
+  pub each : (good rest : List (Served settings spare)) (s : Served settings spare) → sessions ≡ good ++ s ∷ rest → NextFit settings spare first (length good + 1)
+      → IsWhole first now (first.opened + length good) s × UsedWell first s.after
+  pub all : NextFit settings spare first (length sessions) → UsedWell first now

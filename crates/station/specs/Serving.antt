@@ -11,7 +11,7 @@ use Rattle.wires.specs.Stacked.{are_bytes}
 use Rattle.wires.specs.Written.{Appends, Written}
 use Rattle.station.specs.declared.statuses.Status.{Status}
 use Rattle.station.specs.declared.statuses.Status.TheVariants.{Done, FileFault, OutFault, WireFault}
-use Rattle.station.specs.Served.{FileAfter, FitOut, FitShelf, FitWire, OutAfter, Served, WellServed, WireAfter, airs, line_for, lines}
+use Rattle.station.specs.Served.{FileAfter, FitOut, FitShelf, NextFit, OutAfter, Served, ServedInTurn, ServedWhileFit, airs, line_for, lines}
 use Rattle.station.specs.Talk.{IsFront}
 
 -- what wire, shelf and output tell
@@ -21,15 +21,16 @@ pub record Around : Type 0 where
   pub out : Written ℕ
 
 -- Done: so many connections were served at this address, or all that were left, and none is open. Their airs are the file, and their lines were
--- put. No count of faults rose but the wire's for hear, say and hang-up, and over a fit wire none of these. Fit objects are steady.
+-- put. No count of faults rose but the wire's for hear, say and hang-up, and over a steady wire none of these while the connections are fit.
+-- Fit objects are steady.
 pub record AtDone (settings : Parts) (spare : ℕ) (old new : Around) (address name : List ℕ) (most : ℕ) : Type 0 where
   pub sessions : List (Served settings spare)
   pub few : length sessions ≤ most
   pub all : (length sessions ≡ most) ⊎ (IsTrue old.wire.tells → new.wire.count ≤ new.wire.opened)
-  pub wire : WireAfter old.wire new.wire sessions
+  pub wire : ServedInTurn old.wire new.wire sessions
   pub asked : IsTrue old.wire.tells → new.wire.asked ≡ address
   pub shut : IsTrue old.wire.tells → (0 < most ⊎ IsFalse old.wire.is_open) → IsFalse new.wire.is_open
-  pub well : FitWire settings spare old.wire → WellServed old.wire new.wire sessions
+  pub well : IsTrue old.wire.tells → IsTrue old.wire.steady → ServedWhileFit old.wire new.wire sessions
   pub file : FileAfter old.shelf new.shelf name (airs sessions)
   pub file_well : FitShelf settings spare old.wire old.shelf name most → IsTrue new.shelf.steady
   pub out : OutAfter old.out new.out (lines 1 sessions)
@@ -38,13 +39,15 @@ pub record AtDone (settings : Parts) (spare : ℕ) (old new : Around) (address n
   pub shelf_faults : new.shelf.faults ≡ old.shelf.faults
   pub out_faults : new.out.faults ≡ old.out.faults
 
--- WireFault: `listen` or `next` failed, which no fit wire does. The airs and lines of the sessions that were served stand.
+-- WireFault: `listen` or `next` failed, which they don't over a steady wire whose connections so far are fit. The airs and lines of the
+-- sessions that were served stand.
 pub record AtWireFault (settings : Parts) (spare : ℕ) (old new : Around) (address name : List ℕ) (most : ℕ) : Type 0 where
   pub sessions : List (Served settings spare)
   pub few : length sessions ≤ most
-  pub wire : WireAfter old.wire new.wire sessions
+  pub wire : ServedInTurn old.wire new.wire sessions
   pub asked : IsTrue old.wire.tells → new.wire.asked ≡ address
-  pub unfit : FitWire settings spare old.wire → ⊥
+  pub well : IsTrue old.wire.tells → IsTrue old.wire.steady → ServedWhileFit old.wire new.wire sessions
+  pub unfit : IsTrue old.wire.tells → IsTrue old.wire.steady → NextFit settings spare old.wire (length sessions) → ⊥
   pub file : FileAfter old.shelf new.shelf name (airs sessions)
   pub file_well : FitShelf settings spare old.wire old.shelf name most → IsTrue new.shelf.steady
   pub out : OutAfter old.out new.out (lines 1 sessions)
@@ -60,9 +63,9 @@ pub record AtAppendFault (settings : Parts) (spare : ℕ) (old new : Around) (ad
   pub unsent : Served settings spare
   pub front : List Bool
   pub few : length (sessions ++ unsent ∷ []) ≤ most
-  pub wire : WireAfter old.wire new.wire (sessions ++ unsent ∷ [])
+  pub wire : ServedInTurn old.wire new.wire (sessions ++ unsent ∷ [])
   pub asked : IsTrue old.wire.tells → new.wire.asked ≡ address
-  pub well : FitWire settings spare old.wire → WellServed old.wire new.wire (sessions ++ unsent ∷ [])
+  pub well : IsTrue old.wire.tells → IsTrue old.wire.steady → ServedWhileFit old.wire new.wire (sessions ++ unsent ∷ [])
   pub front_is : IsFront front unsent.bits
   pub file : FileAfter old.shelf new.shelf name (airs sessions ++ front)
   pub unfit : FitShelf settings spare old.wire old.shelf name most → ⊥
@@ -91,9 +94,9 @@ pub record AtOutFault (settings : Parts) (spare : ℕ) (old new : Around) (addre
   pub unreported : Served settings spare
   pub front : List ℕ
   pub few : length (sessions ++ unreported ∷ []) ≤ most
-  pub wire : WireAfter old.wire new.wire (sessions ++ unreported ∷ [])
+  pub wire : ServedInTurn old.wire new.wire (sessions ++ unreported ∷ [])
   pub asked : IsTrue old.wire.tells → new.wire.asked ≡ address
-  pub well : FitWire settings spare old.wire → WellServed old.wire new.wire (sessions ++ unreported ∷ [])
+  pub well : IsTrue old.wire.tells → IsTrue old.wire.steady → ServedWhileFit old.wire new.wire (sessions ++ unreported ∷ [])
   pub file : FileAfter old.shelf new.shelf name (airs (sessions ++ unreported ∷ []))
   pub file_well : FitShelf settings spare old.wire old.shelf name most → IsTrue new.shelf.steady
   pub front_is : IsFront front (line_for (length sessions + 1) unreported)
@@ -113,9 +116,8 @@ HasServed settings spare old new address name most other = ⊥
 
 -- The sessions so far are served at this address, sent and reported, and no page is live.
 pub record SoFar {settings : Parts} {spare : ℕ} (old now : Around) (address name : List ℕ) (most : ℕ) (pool : Pool) (sessions : List (Served settings spare)) : Type 0 where
-  pub wire : WireAfter old.wire now.wire sessions
+  pub wire : ServedInTurn old.wire now.wire sessions
   pub asked : IsTrue old.wire.tells → now.wire.asked ≡ address
-  pub well : FitWire settings spare old.wire → WellServed old.wire now.wire sessions
   pub file : FileAfter old.shelf now.shelf name (airs sessions)
   pub file_well : FitShelf settings spare old.wire old.shelf name most → IsTrue now.shelf.steady
   pub out : OutAfter old.out now.out (lines 1 sessions)

@@ -6,6 +6,7 @@ ghost use Rattle.station.specs.AcceptedPages.{AreAcceptable};
 ghost use Rattle.station.specs.AirRoom.{AirsFit, CallFits, ShelfFits, WireFits};
 ghost use Rattle.station.specs.Delivered.{Delivered};
 ghost use Rattle.station.specs.FitWorlds.{FitErrWithRoom, FitInMemory, FitWithRoom};
+ghost use Rattle.station.specs.InTurn.{AllInTurn};
 ghost use Rattle.station.specs.Joined.{BothEnds};
 ghost use Rattle.station.specs.LoneBlock.{HasText, IsMarkedBlock};
 ghost use Rattle.station.specs.NearAir.{CleanAir, NearAir};
@@ -46,6 +47,12 @@ pub fn delivered()
 /// what `near_air` asks of the pages.
 pub fn accepted_pages()
     ensures { AreAcceptable }
+{}
+
+/// What follows where connections were served in turn: what each connection, and each count of the wire, is afterwards; that a session is
+/// lost only where a hear or a say failed; and that over a steady wire each session is whole, while the connections are fit.
+pub fn served_in_turn()
+    ensures { AllInTurn }
 {}
 
 /// Where no call fails, and there is memory, what a command comes to is determined: its status, what was said on each connection, and
