@@ -4,7 +4,9 @@ use Rattle.std.specs.Prelude.{map}
 use Rattle.std.proofs.lemmas.Grind.{flat_map-append}
 use Rattle.std.proofs.lemmas.List.{map-append}
 use Rattle.page_text.specs.Page.{Page}
-use Rattle.receiver.specs.Growing.{EntriesGrow, Grows, IsFront, PagesGrow, ShownGrow}
+use Rattle.wires.specs.Fronts.{Grows, IsFront}
+use Rattle.wires.proofs.Fronts.{front_append, front_behind, front_same, front_then, grows_by_one, splice}
+use Rattle.receiver.specs.Growing.{EntriesGrow, PagesGrow, ShownGrow}
 use Rattle.receiver.specs.Heard.{HeardPage, heard, pages_from, stretch_pages, with_text}
 use Rattle.receiver.specs.Shown.{shown, shown_page}
 use Rattle.receiver.specs.Slots.{Batch, Entry, entries_from, slots_of, stretch_entries}
@@ -14,35 +16,6 @@ use Rattle.receiver.proofs.Locks.{held_from-whole, not_lost}
 use Rattle.receiver.proofs.Pages.{pages_from-push}
 use Rattle.receiver.proofs.Slots.{entries_from-push, slots_from-push}
 use Rattle.receiver.proofs.Stretches.{after_loss-append, after_sync-append, length-after_sync, stretches-is, words_of-append}
-
--- ---- fronts
-
--- a list is a front of itself
-pub front_same : {A : Type 0} (a : List A) → IsFront a a
-front_same a = record { rest = []; is = sym (append-nil a) }
-
--- and of a longer one
-pub front_append : {A : Type 0} (a b : List A) → IsFront a (a ++ b)
-front_append a b = record { rest = b; is = refl }
-
--- a front of a front
-pub front_then : {A : Type 0} (a b c : List A) → IsFront a b → IsFront b c → IsFront a c
-front_then a b c h k = record { rest = h.rest ++ k.rest; is = k.is ∙ (ap (λ (z : List _). z ++ k.rest) h.is ∙ append_assoc a h.rest k.rest) }
-
--- one element from the front of the second list to the end of the first
-pub splice : {A : Type 0} (a : List A) (x : A) (b : List A) → (a ++ x ∷ []) ++ b ≡ a ++ x ∷ b
-splice a x b = append_assoc a (x ∷ []) b
-
--- it does so where one more element does so
-pub grows_by_one : {A B : Type 0} (f : List A → List B) → ((xs : List A) (x : A) → IsFront (f xs) (f (xs ++ x ∷ []))) → Grows f
-grows_by_one f one xs [] = subst (λ (zs : List _). IsFront (f xs) (f zs)) (sym (append-nil xs)) (front_same (f xs))
-grows_by_one f one xs (y ∷ ys) =
-    subst (λ (zs : List _). IsFront (f xs) (f zs)) (splice xs y ys)
-    (front_then (f xs) (f (xs ++ y ∷ [])) (f ((xs ++ y ∷ []) ++ ys)) (one xs y) (grows_by_one f one (xs ++ y ∷ []) ys))
-
--- lists behind the same list
-pub front_behind : {A : Type 0} (c a b : List A) → IsFront a b → IsFront (c ++ a) (c ++ b)
-front_behind c a b h = record { rest = h.rest; is = ap (λ (z : List _). c ++ z) h.is ∙ sym (append_assoc c a h.rest) }
 
 -- ---- the words of a lock
 

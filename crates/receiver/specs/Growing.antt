@@ -1,17 +1,9 @@
 -- What begins with what: of longer bits no less is heard, and what was heard stays. docs/profile.md, "page heard".
-use Rattle.std.specs.Prelude.{◌≡◌, ℕ, Bool, List, ◌++◌, map}
+use Rattle.std.specs.Prelude.{ℕ, Bool, map}
+use Rattle.wires.specs.Fronts.{Grows}
 use Rattle.receiver.specs.Heard.{heard, with_text}
 use Rattle.receiver.specs.Shown.{shown}
 use Rattle.receiver.specs.Slots.{entries}
-
--- a list begins with another
-pub record IsFront {A : Type 0} (front whole : List A) : Type 0 where
-  pub rest : List A
-  pub is : whole ≡ front ++ rest
-
--- what a list gives begins with what each front of it gives
-abbrev pub Grows : {A B : Type 0} → (List A → List B) → Type 0
-Grows {A} f = (xs ys : List A) → IsFront (f xs) (f (xs ++ ys))
 
 -- the pages that are heard in bits begin with those that are heard in each front of them
 abbrev pub PagesGrow : Type 0

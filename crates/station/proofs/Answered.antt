@@ -26,7 +26,7 @@ use Rattle.station.specs.Sessions.{SessionOf, StandsFor, has_end}
 use Rattle.station.specs.Wrote.{Wrote, WroteFront}
 use Rattle.tap_terminal.proofs.Cells.{cells_gain}
 use Rattle.station.proofs.Decisions.{Fed, answers_end, few_heard, no_end_on, not_end, pages_on}
-use Rattle.station.proofs.Lists.{splice}
+use Rattle.wires.proofs.Fronts.{splice}
 use Rattle.station.proofs.Listens.{Wrote-nothing, Wrote-then, WroteFront-then}
 use Rattle.station.proofs.Steps.{session_stood, stands_on}
 

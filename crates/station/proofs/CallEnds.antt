@@ -25,7 +25,8 @@ use Rattle.station.specs.Progress.{At, Moves, logon_of_stage, outcomes_of}
 use Rattle.station.specs.Talk.{here}
 use Rattle.station.proofs.Calling.{early_on, early_still, fits_now, heard_first, heard_so, last_drops, said_here, turns_on, within_still}
 use Rattle.tap_block.proofs.Characters.{characters_on}
-use Rattle.station.proofs.Lists.{all-append, front_append, front_same, front_then, splice}
+use Rattle.wires.proofs.Fronts.{front_append, front_same, front_then, splice}
+use Rattle.station.proofs.Lists.{all-append}
 use Rattle.station.proofs.Moving.{at_client, at_goes_on, at_logon, at_marks}
 use Rattle.station.proofs.SpokenTalks.{calm_speaks, no_cut_speaks, talked_speaks, talked_speaks_cut}
 use Rattle.station.proofs.Talks.{calm_hears, calm_nothing, no_deaf, talked_deaf, talked_hears, talked_nothing, talked_silent}

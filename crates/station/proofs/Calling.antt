@@ -19,9 +19,11 @@ use Rattle.station.specs.declared.stages.Stage.{Stage}
 use Rattle.station.specs.declared.stages.Stage.TheVariants.{Calling}
 use Rattle.station.specs.Conversations.{HasRoom, IsSaidFor, IsTurnOf, IsWithinDue, UnderWay}
 use Rattle.station.specs.Progress.{At, EndsCall}
-use Rattle.station.specs.Talk.{IsFront, here}
+use Rattle.wires.specs.Fronts.{IsFront}
+use Rattle.station.specs.Talk.{here}
 use Rattle.tap_block.proofs.Characters.{characters_on}
-use Rattle.station.proofs.Lists.{all-map, front_then}
+use Rattle.wires.proofs.Fronts.{front_then}
+use Rattle.station.proofs.Lists.{all-map}
 use Rattle.station.proofs.Moving.{at_client, at_goes_on, at_marks}
 use Rattle.station.proofs.SpokenTalks.{calm_speaks, talked_speaks}
 use Rattle.station.proofs.Talks.{calm_nothing, talked_nothing}

@@ -3,7 +3,7 @@ use Rattle.std.proofs.Common.{◌≡◌, ℕ, ◌+◌, Bool, List, ◌++◌, ◌
 use Rattle.std.specs.Prelude.{map}
 use Rattle.std.proofs.lemmas.Grind.{flat_map-append}
 use Rattle.page_text.specs.Page.{Page}
-use Rattle.receiver.specs.Growing.{Grows}
+use Rattle.wires.specs.Fronts.{Grows}
 use Rattle.receiver.specs.Heard.{heard, with_text}
 use Rattle.receiver.specs.Listeners.{Listener, is_one_of}
 use Rattle.receiver.specs.Receivers.{has_in, is_paired}

@@ -9,7 +9,7 @@ use Rattle.wires.specs.declared.Failed.{Failed}
 use Rattle.wires.specs.Written.{Written, Puts}
 use Rattle.wires.proofs.Left.{Took-nothing, Took-none, Took-one, Took-then}
 use Rattle.wires.proofs.Written.{no_ok, Puts-cut, Puts-nothing, Puts-then, still}
-use Rattle.receiver.specs.Growing.{Grows, IsFront}
+use Rattle.wires.specs.Fronts.{Grows, IsFront}
 use Rattle.station.specs.Listening.{FailedAfter, ListenedToAll, ListenedToFault, ListenedTooLong, ListenedUnheard, ListeningTo, Prints, most_bits, put_of}
 use Rattle.station.specs.Wrote.{Wrote, WroteFront}
 

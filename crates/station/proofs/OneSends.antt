@@ -15,7 +15,7 @@ use Rattle.wires.specs.Held.{Connection}
 use Rattle.wires.specs.Line.{Line, last}
 use Rattle.wires.specs.Written.{Written}
 use Rattle.wires.proofs.Written.{still}
-use Rattle.station.proofs.Lists.{fronts_of}
+use Rattle.wires.proofs.Fronts.{fronts_of}
 use Rattle.station.specs.declared.outcomes.Outcome.{Outcome}
 use Rattle.station.specs.declared.outcomes.Outcome.TheVariants.{Ended, Misread, Refused}
 use Rattle.station.specs.declared.stages.Ending.{Ending}
@@ -32,7 +32,8 @@ use Rattle.station.specs.Progress.{EndsCall, IsLogon}
 use Rattle.station.specs.Rows.{around}
 use Rattle.station.specs.SendRows.{SendRow, SentBy}
 use Rattle.station.specs.Serving.{Around}
-use Rattle.station.specs.Talk.{IsFront, here}
+use Rattle.wires.specs.Fronts.{IsFront}
+use Rattle.station.specs.Talk.{here}
 use Rattle.station.proofs.CallsUp.{next_here}
 
 -- ---- what is fed

@@ -14,11 +14,13 @@ use Rattle.tap_terminal.specs.Session.{Session, is_end}
 use Rattle.wires.specs.Held.{Connection}
 use Rattle.wires.specs.Line.{Hears, Line, Says, last}
 use Rattle.station.specs.Sessions.{Fits, IsTurn, SessionOf, StandsFor, UnderWay}
-use Rattle.station.specs.Talk.{Calm, IsFront, Talked, here}
+use Rattle.wires.specs.Fronts.{IsFront}
+use Rattle.station.specs.Talk.{Calm, Talked, here}
 use Rattle.tap_block.proofs.Characters.{characters_on}
 use Rattle.tap_terminal.proofs.Cells.{cells_gain}
 use Rattle.station.proofs.Decisions.{Fed, fits_front, no_end_on, not_end, pages_on, replies_on}
-use Rattle.station.proofs.Lists.{all-append, all-map, front_append, front_same, front_then, splice}
+use Rattle.wires.proofs.Fronts.{front_append, front_same, front_then, splice}
+use Rattle.station.proofs.Lists.{all-append, all-map}
 use Rattle.station.proofs.Talks.{calm_hears, calm_nothing, calm_says, talked_hears, talked_nothing, talked_says}
 
 -- the session that a terminal stands for

@@ -17,7 +17,7 @@ use Rattle.station.specs.Sessions.{Fits, GoesOn, IsAnsweredLast, Ran, Stop, Stop
 use Rattle.station.specs.Talk.{Grew, here}
 use Rattle.tap_terminal.proofs.Cells.{cells_gain}
 use Rattle.station.proofs.Decisions.{Fed, few_heard, fits_front, not_end, pages_on, replies_on, spoken}
-use Rattle.station.proofs.Lists.{front_append, front_same}
+use Rattle.wires.proofs.Fronts.{front_append, front_same}
 use Rattle.station.proofs.Steps.{all_fed, fits_now, heard_rest, session_stood, stands_on, turns_on}
 use Rattle.station.proofs.Talks.{calm_hears, calm_says, no_cut, no_deaf, talked_cut, talked_deaf, talked_says, talked_silent}
 

@@ -6,8 +6,8 @@ use Rattle.page_text.specs.Page.{Page}
 use Rattle.page_pool.specs.Pool.{Live, Pool, pages}
 use Rattle.scheduler.proofs.Schedules.{one_schedule}
 use Rattle.air.specs.Air.{IsAir, transmission}
-use Rattle.receiver.specs.Growing.{Grows, IsFront}
-use Rattle.receiver.proofs.Growing.{front_behind}
+use Rattle.wires.specs.Fronts.{Grows, IsFront}
+use Rattle.wires.proofs.Fronts.{front_behind}
 use Rattle.subscribers.specs.Directory.{directory_of}
 use Rattle.subscribers.specs.Parts.{Parts}
 use Rattle.tap_block.specs.Chars.{char_of, characters}

@@ -24,7 +24,7 @@ use Rattle.station.specs.Sessions.{Fits, IsAnsweredLast, SessionOf, StandsFor, S
 use Rattle.station.specs.Talk.{here}
 use Rattle.station.proofs.Decisions.{answers_end}
 use Rattle.station.proofs.InTurn.{SameFrom, same_on, session_keeps, session_opened, session_others, turn-lost, turn-stays, turn-within, wire_after}
-use Rattle.station.proofs.Lists.{splice}
+use Rattle.wires.proofs.Fronts.{splice}
 use Rattle.station.proofs.Stops.{not_lost}
 
 -- ---- a session that ended is that of all that is to be heard

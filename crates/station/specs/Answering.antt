@@ -13,7 +13,7 @@ use Rattle.station.specs.declared.answering.InputEnd.{InputEnd}
 use Rattle.station.specs.declared.answering.InputEnd.TheVariants.{Answered, Broken, Unprinted}
 use Rattle.station.specs.Answers.{answer_lines}
 use Rattle.station.specs.Sessions.{SessionOf, StandsFor, has_end}
-use Rattle.station.specs.Talk.{IsFront}
+use Rattle.wires.specs.Fronts.{IsFront}
 use Rattle.station.specs.Wrote.{Wrote, WroteFront}
 
 -- The pool gained the pages of a session.

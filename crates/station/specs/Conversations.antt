@@ -16,7 +16,8 @@ use Rattle.station.specs.declared.stages.Stage.{Stage}
 use Rattle.station.specs.declared.stages.Step.{Step}
 use Rattle.station.specs.declared.stages.Step.TheVariants.{On, Ends}
 use Rattle.station.specs.Progress.{At, EndsCall, IsLogon, logon_of, outcomes_of}
-use Rattle.station.specs.Talk.{Calm, IsFront, Talked, here}
+use Rattle.wires.specs.Fronts.{IsFront}
+use Rattle.station.specs.Talk.{Calm, Talked, here}
 
 -- The bytes are within those that are due: they have at most 1,000,000 characters, and the marks of no shorter front end the call.
 pub record IsWithinDue (told : Told) (bytes : List ℕ) : Type 0 where

@@ -1,6 +1,6 @@
 -- Bits that were listened to, and what was printed of them.
 use Rattle.std.specs.Prelude.{◌≡◌, ◌≢◌, ℕ, ◌+◌, ◌*◌, ◌≤◌, ◌<◌, Bool, List, [], ◌∷◌, ◌++◌, length, take, Result, Ok, Err, IsTrue}
-use Rattle.receiver.specs.Growing.{IsFront}
+use Rattle.wires.specs.Fronts.{IsFront}
 use Rattle.wires.specs.Causes.{Rose}
 use Rattle.wires.specs.Left.{Left, Took}
 use Rattle.wires.specs.Pieces.{taken_of}

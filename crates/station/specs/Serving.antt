@@ -12,7 +12,7 @@ use Rattle.wires.specs.Written.{Appends, Written}
 use Rattle.station.specs.declared.statuses.Status.{Status}
 use Rattle.station.specs.declared.statuses.Status.TheVariants.{Done, FileFault, OutFault, WireFault}
 use Rattle.station.specs.Served.{FileAfter, FitOut, FitShelf, NextFit, OutAfter, Served, ServedInTurn, ServedWhileFit, airs, line_for, lines}
-use Rattle.station.specs.Talk.{IsFront}
+use Rattle.wires.specs.Fronts.{IsFront}
 
 -- what wire, shelf and output tell
 pub record Around : Type 0 where

@@ -14,7 +14,8 @@ use Rattle.wires.specs.Held.{Connection}
 use Rattle.wires.specs.Line.{Line}
 use Rattle.station.specs.declared.session.SessionEnd.{SessionEnd}
 use Rattle.station.specs.declared.session.SessionEnd.TheVariants.{Ended, Forced, HungUp, LineLost}
-use Rattle.station.specs.Talk.{Calm, IsFront, Talked, here}
+use Rattle.wires.specs.Fronts.{IsFront}
+use Rattle.station.specs.Talk.{Calm, Talked, here}
 
 -- this is the session of these bytes under the settings, with so many spare cells at first
 abbrev pub SessionOf : Parts → ℕ → List ℕ → Session → Type 0

@@ -1,6 +1,5 @@
 -- What happened on an open connection.
 use Rattle.std.specs.Prelude.{◌≡◌, ◌≢◌, ℕ, ◌+◌, ◌≤◌, List, ◌++◌, length, IsTrue}
-pub use Rattle.receiver.specs.Growing.{IsFront}
 use Rattle.wires.specs.Held.{Connection}
 use Rattle.wires.specs.Line.{Line, last}
 

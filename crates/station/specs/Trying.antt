@@ -2,7 +2,7 @@
 use Rattle.std.specs.Prelude.{◌≡◌, ◌≢◌, ◌⊎◌, ℕ, ◌≤◌, ◌<◌, Bool, List, [], ◌++◌, codes, length, IsTrue}
 use Rattle.air.specs.Air.{IsAir}
 use Rattle.page_text.specs.Page.{Page}
-use Rattle.receiver.specs.Growing.{IsFront}
+use Rattle.wires.specs.Fronts.{IsFront}
 use Rattle.subscribers.specs.Parts.{Parts}
 use Rattle.tap_terminal.specs.Session.{Session}
 use Rattle.wires.specs.Left.{Left, Took}

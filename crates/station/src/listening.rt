@@ -1,7 +1,7 @@
 //! Listening to bits, some at a time, and printing what they give.
 
 ghost use Rattle.std.specs.Prelude.{◌≡◌, ℕ, ◌+◌, ◌<◌, ◌^◌, ◌++◌, [], Bool, List, OnOk, length};
-ghost use Rattle.receiver.specs.Growing.{Grows};
+ghost use Rattle.wires.specs.Fronts.{Grows};
 ghost use Rattle.station.specs.Listening.{Listens, Prints, put_of};
 ghost use Rattle.wires.specs.Pieces.{taken_of};
 

@@ -12,3 +12,4 @@ pub mod ExactShelf
 pub mod Noise
 pub mod Below
 pub mod ExactWire
+pub mod Fronts

@@ -13,3 +13,4 @@ pub mod FakeShelf
 pub mod FakeWire
 pub mod Below
 pub mod Stacked
+pub mod Fronts
