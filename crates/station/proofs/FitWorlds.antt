@@ -175,6 +175,7 @@ fit_with_room (Some (One capcode)) old s h = (
     input_steady = s.input_steady;
     tells = s.out_tells;
     steady = s.out_steady;
+    of_bytes = s.out_bytes;
     room = λ body text bits is has air. let a = one_fits capcode body text bits has air in omega (arith, a, le);
   },
 )
@@ -259,7 +260,7 @@ has_files (Some (Trial settings noise capcodes)) heard input file = (refl, refl)
 has_files (Some (Send address pages)) heard input file = (refl, omega arith)
 
 steady_world : (heard input : List ℕ) (file : List ℕ → List ℕ) → AreSteady (world heard file input)
-steady_world heard input file = record { wire_tells = refl; wire_steady = refl; shelf_tells = refl; shelf_steady = refl; input_tells = refl; input_steady = refl; out_tells = refl; out_steady = refl }
+steady_world heard input file = record { wire_tells = refl; wire_steady = refl; shelf_tells = refl; shelf_steady = refl; input_tells = refl; input_steady = refl; out_tells = refl; out_steady = refl; out_bytes = refl }
 
 pub fit_in_memory : FitInMemory
 fit_in_memory command heard input file =

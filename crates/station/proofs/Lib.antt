@@ -76,3 +76,4 @@ pub mod OneRuns
 pub mod EntryNumbers
 pub mod FitWorlds
 pub mod OneSettings
+pub mod LeftAlike

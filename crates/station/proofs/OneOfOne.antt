@@ -5,14 +5,16 @@ use Rattle.bits.specs.Bits.{bytes_bits}
 use Rattle.tap_block.specs.Chars.{characters}
 use Rattle.wires.proofs.Written.{still}
 use Rattle.wires.specs.Stacked.{are_bytes}
+use Rattle.wires.specs.Files.{all_files}
 use Rattle.wires.specs.Left.{Left}
 use Rattle.wires.specs.Written.{Written}
 use Rattle.station.specs.declared.statuses.Status.{Status}
 use Rattle.station.specs.declared.statuses.Status.TheVariants.{BadSum, BadText, Done, InputFault, Memory, NotBlock, OutFault}
 use Rattle.station.specs.AlphaPage.{alpha_page}
 use Rattle.station.specs.LoneBlock.{HasText}
-use Rattle.station.specs.OneOutcome.{FitOne, OneOne, SameOutcome}
+use Rattle.station.specs.OneOutcome.{FitOne, OneOne}
 use Rattle.station.specs.Rows.{OneRow, PageSent, ReadBadText, ReadBlock, ReadNoBlock, Streams}
+use Rattle.station.proofs.LeftAlike.{kept_alike, same_said}
 use Rattle.station.proofs.OneAir.{one_air}
 use Rattle.station.proofs.OneBytes.{one_bytes, still_bytes}
 use Rattle.station.proofs.OneAnswer.{one_block, one_text}
@@ -42,19 +44,17 @@ same_bits capcode old new other t h k =
     one_air (alpha_page capcode h.text ∷ []) h.bits k.bits h.air (subst (λ (z : List ℕ). IsAir (alpha_page capcode z ∷ []) k.bits) x k.air)
 
 -- the output is as it was
-same_out : (status : Status) (old new other : Written ℕ) → new ≡ old → other ≡ old → SameOutcome status status (bytes_bits new.held) (bytes_bits other.held)
-same_out status old new other h k = record { ends_alike = refl; makes_alike = ap (λ (o : Written ℕ). bytes_bits o.held) (k ∙ sym h) }
+same_out : (status : Status) (old new other : Written ℕ) → new ≡ old → other ≡ old → (status ≡ status) × (bytes_bits other.held ≡ bytes_bits new.held)
+same_out status old new other h k = (refl, ap (λ (o : Written ℕ). bytes_bits o.held) (k ∙ sym h))
 
 -- the output had room
 no_fault : {B : Type 0} (capcode : ℕ) (old new : Streams) → FitOne capcode old → OneRow capcode old new OutFault → B
 no_fault capcode old new fit h = absurd (h.1.unfit fit.tells fit.steady (fit.room h.0.body h.0.text h.0.bits (h.0.read.block fit.input_tells) h.0.has_text h.0.air))
 
 pair : (capcode : ℕ) (old new other : Streams) (status another : Status) → FitOne capcode old → OneRow capcode old new status → OneRow capcode old other another → status ≢ Memory → another ≢ Memory
-    → SameOutcome status another (bytes_bits new.out.held) (bytes_bits other.out.held)
-pair c old new other Done Done fit h k some some2 = record {
-  ends_alike = refl;
-  makes_alike = k.1.held fit.tells ∙ (ap (λ (bits : List Bool). bytes_bits old.out.held ++ bits) (same_bits c old.input new.input other.input fit.input_tells h.0 k.0) ∙ sym (h.1.held fit.tells));
-}
+    → (another ≡ status) × (bytes_bits other.out.held ≡ bytes_bits new.out.held)
+pair c old new other Done Done fit h k some some2 =
+    (refl, k.1.held fit.tells ∙ (ap (λ (bits : List Bool). bytes_bits old.out.held ++ bits) (same_bits c old.input new.input other.input fit.input_tells h.0 k.0) ∙ sym (h.1.held fit.tells)))
 pair c old new other Done NotBlock fit h k some some2 = no_and_one old.input other.input new.input h.0.body true fit.input_tells k.0 h.0.read
 pair c old new other Done BadSum fit h k some some2 = right_and_wrong old.input new.input other.input h.0.body k.0.body fit.input_tells h.0.read k.0.read
 pair c old new other Done BadText fit h k some some2 = text_and_none c old.input new.input other.input fit.input_tells h.0 k.0
@@ -100,7 +100,8 @@ leaves_bytes capcode old new other h t b = elim h [ ]
 
 pub one_one : OneOne
 one_one capcode old new other status another fit h k some some2 =
-    let r = pair capcode old.streams new.streams other.streams status another fit h.row k.row some some2 in (
-      r,
-      λ b. one_bytes other.streams.out.held new.streams.out.held (leaves_bytes capcode old.streams other.streams another k.row fit.tells b) (leaves_bytes capcode old.streams new.streams status h.row fit.tells b) r.makes_alike,
-    )
+    let r = pair capcode old.streams new.streams other.streams status another fit h.row k.row some some2 in
+    let held : other.streams.out.held ≡ new.streams.out.held =
+    one_bytes other.streams.out.held new.streams.out.held (leaves_bytes capcode old.streams other.streams another k.row fit.tells fit.of_bytes)
+    (leaves_bytes capcode old.streams new.streams status h.row fit.tells fit.of_bytes) r.1 in
+    (r.0, kept_alike old new other (ap all_files h.shelf) (ap all_files k.shelf) (same_said old.wire new.wire other.wire h.wire k.wire) held)

@@ -11,10 +11,11 @@ use Rattle.station.specs.declared.statuses.Status.{Status}
 use Rattle.station.specs.declared.statuses.Status.TheVariants.{Done, FileFault, Memory, OutFault, TooLong}
 use Rattle.station.specs.HeardFile.{HearsFile, Plays, file_bits}
 use Rattle.station.specs.Listening.{Listens, most_bits}
-use Rattle.station.specs.OneOutcome.{FitFile, OnePlay, OneShow, SameOutcome, bits_listened}
+use Rattle.station.specs.OneOutcome.{FitFile, OnePlay, OneShow, bits_listened}
 use Rattle.station.specs.PageLines.{play_lines}
 use Rattle.station.specs.Table.{table_of}
 use Rattle.station.specs.Wrote.{FitFor}
+use Rattle.station.proofs.LeftAlike.{kept_alike, same_said}
 use Rattle.station.proofs.WellListened.{read_first, read_whole}
 
 -- the status, where so many bits are to be listened to
@@ -48,8 +49,8 @@ comes_to printed old new out0 out other t s fit h = elim h [ ]
 
 -- two that come to the same
 same : (printed : List Bool → List ℕ) (bits : List Bool) (out0 out out2 : Written ℕ) (status another : Status) → ComesTo printed bits out0 out status → ComesTo printed bits out0 out2 another
-    → SameOutcome status another out.held out2.held
-same printed bits out0 out out2 status another h k = record { ends_alike = k.status_is ∙ sym h.status_is; makes_alike = k.held ∙ sym h.held }
+    → (another ≡ status) × (out2.held ≡ out.held)
+same printed bits out0 out out2 status another h k = (k.status_is ∙ sym h.status_is, k.held ∙ sym h.held)
 
 -- hearing a file comes to what listening to its bits does
 file_comes_to : (printed : List Bool → List ℕ) (name : List ℕ) (old new : Files) (out0 out : Written ℕ) (status : Status) → FitFile name old → FitFor out0 (printed (bits_listened name old))
@@ -66,12 +67,14 @@ pub one_play : OnePlay
 one_play capcodes air old new other status another file fit h k some some2 =
     let a = had_memory (play_lines capcodes) air old.shelf new.shelf old.streams.out new.streams.out status some h.row in
     let b = had_memory (play_lines capcodes) air old.shelf other.shelf old.streams.out other.streams.out another some2 k.row in
-    same (play_lines capcodes) (bytes_bits (old.shelf.file air)) old.streams.out new.streams.out other.streams.out status another
+    let s = same (play_lines capcodes) (bytes_bits (old.shelf.file air)) old.streams.out new.streams.out other.streams.out status another
     (file_comes_to (play_lines capcodes) air old.shelf new.shelf old.streams.out new.streams.out status file fit a)
-    (file_comes_to (play_lines capcodes) air old.shelf other.shelf old.streams.out other.streams.out another file fit b)
+    (file_comes_to (play_lines capcodes) air old.shelf other.shelf old.streams.out other.streams.out another file fit b) in
+    (s.0, kept_alike old new other a.files b.files (same_said old.wire new.wire other.wire h.wire k.wire) s.1)
 
 pub one_show : OneShow
 one_show air old new other status another file fit h k =
-    same table_of (bytes_bits (old.shelf.file air)) old.streams.out new.streams.out other.streams.out status another
+    let s = same table_of (bytes_bits (old.shelf.file air)) old.streams.out new.streams.out other.streams.out status another
     (file_comes_to table_of air old.shelf new.shelf old.streams.out new.streams.out status file fit h.row)
-    (file_comes_to table_of air old.shelf other.shelf old.streams.out other.streams.out another file fit k.row)
+    (file_comes_to table_of air old.shelf other.shelf old.streams.out other.streams.out another file fit k.row) in
+    (s.0, kept_alike old new other h.row.files k.row.files (same_said old.wire new.wire other.wire h.wire k.wire) s.1)

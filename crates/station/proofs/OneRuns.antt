@@ -8,10 +8,12 @@ use Rattle.station.specs.declared.outcomes.Outcome.TheVariants.{Ended, Misread, 
 use Rattle.station.specs.declared.statuses.Status.{Status}
 use Rattle.station.specs.declared.statuses.Status.TheVariants.{BadPages, Done, Memory, OutFault, Settings}
 use Rattle.station.specs.Commands.{Command, One, Play, Send, Show, Station, Trial}
-use Rattle.station.specs.OneRun.{FitRun, MadeAlike, OneRun}
+use Rattle.station.specs.OneRun.{FitRun, OneRun}
 use Rattle.station.specs.Outcomes.{Tells, TellsMisread, TellsOutcome, TellsRefusal, line_about, pages_line, settings_line}
 use Rattle.station.specs.Rows.{Acts, Came, Objects}
 use Rattle.station.specs.Statuses.{line_of}
+use Rattle.station.specs.OneOutcome.{LeftAlike}
+use Rattle.station.proofs.LeftAlike.{kept_alike}
 use Rattle.station.proofs.OneCommands.{one_command}
 use Rattle.station.proofs.OneOfOne.{one_one}
 use Rattle.station.proofs.OneOutcomes.{one_play, one_show}
@@ -70,14 +72,15 @@ came_alike row row2 (Refused fault) another f h k some some2 = elim h [ ]
 came_alike row row2 (Misread fault) another f h k some some2 = elim h [ ]
 
 acts_alike : (command : Option Command) (old new other : Objects) (outcome another : Outcome) → FitRun command old → Acts command old new outcome → Acts command old other another
-    → outcome ≢ Ended Memory → another ≢ Ended Memory → (another ≡ outcome) × MadeAlike command old new other
-acts_alike None old new other outcome another fit h k some some2 = (k.0 ∙ sym h.0, k.1 ∙ sym h.1)
+    → outcome ≢ Ended Memory → another ≢ Ended Memory → (another ≡ outcome) × LeftAlike new other
+acts_alike None old new other outcome another fit h k some some2 =
+    (k.0 ∙ sym h.0, subst (λ (x : Objects). LeftAlike x other) (k.1 ∙ sym h.1) (kept_alike other other other refl refl (λ j. refl) refl))
 acts_alike (Some (One capcode)) old new other outcome another fit h k some some2 =
-    came_alike _ _ outcome another (λ s t a b n m. let r = one_one capcode old new other s t fit a b n m in (r.0.ends_alike, (r.0.makes_alike, r.1))) h k some some2
+    came_alike _ _ outcome another (λ s t a b n m. one_one capcode old new other s t fit a b n m) h k some some2
 acts_alike (Some (Play air capcodes)) old new other outcome another fit h k some some2 =
-    came_alike _ _ outcome another (λ s t a b n m. let r = one_play capcodes air old new other s t fit.0 fit.1 a b n m in (r.ends_alike, r.makes_alike)) h k some some2
+    came_alike _ _ outcome another (λ s t a b n m. one_play capcodes air old new other s t fit.0 fit.1 a b n m) h k some some2
 acts_alike (Some (Show air)) old new other outcome another fit h k some some2 =
-    came_alike _ _ outcome another (λ s t a b n m. let r = one_show air old new other s t fit.0 fit.1 a b in (r.ends_alike, r.makes_alike)) h k some some2
+    came_alike _ _ outcome another (λ s t a b n m. one_show air old new other s t fit.0 fit.1 a b) h k some some2
 acts_alike (Some (Station address settings air count)) old new other outcome another fit h k some some2 = one_station address settings air count old new other outcome another fit h k some some2
 acts_alike (Some (Trial settings noise capcodes)) old new other outcome another fit h k some some2 = one_trial settings noise capcodes old new other outcome another fit h k some some2
 acts_alike (Some (Send address pages)) old new other outcome another fit h k some some2 = one_send address pages old new other outcome another fit h k some some2
@@ -95,6 +98,6 @@ one_run words command old new other result another are fit err h k some some2 =
     let r = acts_alike command old.objects new.objects other.objects h.outcome k.outcome fit acts acts2 (had_memory h.outcome result told.0 some) (had_memory k.outcome another told2.0 some2) in
     record {
       ends_alike = told2.0 ∙ (ap result_of r.0 ∙ sym told.0);
-      made_alike = r.1;
+      left_alike = r.1;
       err_alike = told2.1 ∙ (ap (λ (x : Outcome). old.err.held ++ line_about x) r.0 ∙ sym told.1);
     }

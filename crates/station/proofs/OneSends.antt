@@ -11,6 +11,7 @@ use Rattle.tap_entry.specs.PagesFile.{IsFile, IsRefused, Told}
 use Rattle.tap_entry.proofs.OneClient.{one_client}
 use Rattle.tap_entry.proofs.OneCut.{one_marks}
 use Rattle.tap_entry.proofs.OneFile.{not_wrong, one_line, one_told}
+use Rattle.wires.specs.Files.{all_files}
 use Rattle.wires.specs.Held.{Connection}
 use Rattle.wires.specs.Line.{Line, last}
 use Rattle.wires.specs.Written.{Written}
@@ -26,15 +27,17 @@ use Rattle.station.specs.declared.statuses.Status.{Status}
 use Rattle.station.specs.declared.statuses.Status.TheVariants.{Done, FileFault, LogonRefused, Memory, OutFault, SomeUnsent, WireFault}
 use Rattle.station.specs.Calls.{HasCalled, HungUp, PutLines, SendsSo, status_of}
 use Rattle.station.specs.Conversations.{IsWithinDue, Stop, Stops, deaf, long, mute, silent, through}
-use Rattle.station.specs.OneSend.{FitSend, OneSend, SameSending}
+use Rattle.station.specs.OneSend.{FitSend, OneSend}
 use Rattle.station.specs.OutcomeLines.{all_sent, outcome_lines}
 use Rattle.station.specs.Progress.{EndsCall, IsLogon}
-use Rattle.station.specs.Rows.{around}
+use Rattle.station.specs.OneOutcome.{LeftAlike}
+use Rattle.station.specs.Rows.{Objects, around}
 use Rattle.station.specs.SendRows.{SendRow, SentBy}
 use Rattle.station.specs.Serving.{Around}
 use Rattle.wires.specs.Fronts.{IsFront}
 use Rattle.station.specs.Talk.{here}
 use Rattle.station.proofs.CallsUp.{next_here}
+use Rattle.station.proofs.LeftAlike.{kept_alike, same_said}
 
 -- ---- what is fed
 
@@ -186,6 +189,7 @@ pub record IsSent (pages : List ℕ) (old new : Around) (outcome : Outcome) : Ty
   pub pages_are : IsFile (old.shelf.file pages) told
   pub called : IsCalled told old.wire new.wire outcomes logon
   pub held : new.out.held ≡ old.out.held ++ outcome_lines outcomes
+  pub kept : all_files new.shelf ≡ all_files old.shelf
   pub outcome_is : outcome ≡ Ended (status_of (Over logon) (all_sent outcomes))
 
 -- The file is refused, and nothing was touched.
@@ -195,6 +199,7 @@ pub record IsMisread (pages : List ℕ) (old new : Around) (outcome : Outcome) :
   pub refused : IsRefused (old.shelf.file pages) fault
   pub wire : new.wire ≡ old.wire
   pub out : new.out ≡ old.out
+  pub kept : all_files new.shelf ≡ all_files old.shelf
   pub outcome_is : outcome ≡ Misread fault
 
 granted : (b : Bool) → IsTrue b → status_of (Over Granted) b ≡ Done
@@ -205,31 +210,32 @@ granted_not : (b : Bool) → IsFalse b → status_of (Over Granted) b ≡ SomeUn
 granted_not true h = cc
 granted_not false h = refl
 
-sent_by : (told : Told) (address pages : List ℕ) (old new : Around) (outcomes : List PageOutcome) (logon : Logon) (status : Status) → FitSend pages old → IsFile (old.shelf.file pages) told
+sent_by : (told : Told) (address pages : List ℕ) (old new : Around) (outcomes : List PageOutcome) (logon : Logon) (status : Status) → FitSend pages old → IsFile (old.shelf.file pages) told → all_files new.shelf ≡ all_files old.shelf
     → HasCalled told address old.wire new.wire outcomes (Over logon) → PutLines old.out new.out outcomes → status_of (Over logon) (all_sent outcomes) ≡ status → IsSent pages old new (Ended status)
-sent_by told address pages old new outcomes logon status fit is called put e = record {
+sent_by told address pages old new outcomes logon status fit is kept called put e = record {
   told = told;
   outcomes = outcomes;
   logon = logon;
   pages_are = is;
   called = is_called told address old.wire new.wire outcomes logon fit.wire_tells called;
   held = put.held fit.out_tells;
+  kept = kept;
   outcome_is = ap (λ (x : Status). Ended x) (sym e);
 }
 
-by_status : (told : Told) (address pages : List ℕ) (old new : Around) (outcomes : List PageOutcome) (status : Status) → FitSend pages old → IsFile (old.shelf.file pages) told → status ≢ WireFault → status ≢ OutFault
+by_status : (told : Told) (address pages : List ℕ) (old new : Around) (outcomes : List PageOutcome) (status : Status) → FitSend pages old → IsFile (old.shelf.file pages) told → all_files new.shelf ≡ all_files old.shelf → status ≢ WireFault → status ≢ OutFault
     → SendsSo told address old.wire new.wire old.out new.out outcomes status → IsSent pages old new (Ended status)
-by_status told address pages old new outcomes Done fit is w o h = sent_by told address pages old new outcomes Granted Done fit is (h.0).called h.2 (granted (all_sent outcomes) h.1)
-by_status told address pages old new outcomes LogonRefused fit is w o h = sent_by told address pages old new outcomes Pending LogonRefused fit is (h.0).called h.1 refl
-by_status told address pages old new outcomes SomeUnsent fit is w o h = sent_by told address pages old new outcomes Granted SomeUnsent fit is (h.0).called h.2 (granted_not (all_sent outcomes) h.1)
-by_status told address pages old new outcomes WireFault fit is w o h = absurd (w refl)
-by_status told address pages old new outcomes OutFault fit is w o h = absurd (o refl)
-by_status told address pages old new outcomes other fit is w o h = elim h [ ]
+by_status told address pages old new outcomes Done fit is kept w o h = sent_by told address pages old new outcomes Granted Done fit is kept (h.0).called h.2 (granted (all_sent outcomes) h.1)
+by_status told address pages old new outcomes LogonRefused fit is kept w o h = sent_by told address pages old new outcomes Pending LogonRefused fit is kept (h.0).called h.1 refl
+by_status told address pages old new outcomes SomeUnsent fit is kept w o h = sent_by told address pages old new outcomes Granted SomeUnsent fit is kept (h.0).called h.2 (granted_not (all_sent outcomes) h.1)
+by_status told address pages old new outcomes WireFault fit is kept w o h = absurd (w refl)
+by_status told address pages old new outcomes OutFault fit is kept w o h = absurd (o refl)
+by_status told address pages old new outcomes other fit is kept w o h = elim h [ ]
 
 is_sent : (address pages : List ℕ) (old new : Around) (status : Status) → FitSend pages old → SentBy address pages old new status → IsSent pages old new (Ended status)
 is_sent address pages old new status fit h =
     let is : IsFile (old.shelf.file pages) h.told = h.read.pages_are fit.tells in
-    by_status h.told address pages old new (h.sends).outcomes status fit is
+    by_status h.told address pages old new (h.sends).outcomes status fit is h.read.unharmed.kept.files
     ((h.sends).wire_well fit.wire_tells fit.wire_steady fit.left (fit.wire_room h.told is)).2
     ((h.sends).out_well fit.out_tells fit.out_steady (fit.out_room h.told is)).1
     (h.sends).sends
@@ -238,7 +244,7 @@ is_sent address pages old new status fit h =
 view : (address pages : List ℕ) (old new : Around) (outcome : Outcome) → FitSend pages old → outcome ≢ Ended Memory → SendRow address pages old new outcome → IsSent pages old new outcome ⊎ IsMisread pages old new outcome
 view address pages old new (Refused fault) fit some h = elim h [ ]
 view address pages old new (Misread Pages.Memory) fit some h = elim h [ ]
-view address pages old new (Misread fault) fit some h = inr (record { fault = fault; not_memory = λ e. cc; refused = h.0.refused fit.tells; wire = h.1.wire; out = h.1.out; outcome_is = refl })
+view address pages old new (Misread fault) fit some h = inr (record { fault = fault; not_memory = λ e. cc; refused = h.0.refused fit.tells; wire = h.1.wire; out = h.1.out; kept = h.0.unharmed.kept.files; outcome_is = refl })
 view address pages old new (Ended Memory) fit some h = absurd (some refl)
 view address pages old new (Ended FileFault) fit some h = absurd (h.0.unsteady fit.tells fit.steady fit.there)
 view address pages old new (Ended status) fit some h = inl (is_sent address pages old new status fit h)
@@ -259,38 +265,33 @@ not_refused bytes told Pages.Long n h k = let a = h.short in absurd (omega (arit
 not_refused bytes told (Pages.Line x) n h k = absurd (not_wrong bytes told x h k.1)
 
 -- two that were sent
-both_sent : (pages : List ℕ) (old new other : Around) (outcome another : Outcome) → IsSent pages old new outcome → IsSent pages old other another → (another ≡ outcome) × SameSending new other
+both_sent : (pages : List ℕ) (old new other : Objects) (outcome another : Outcome) → IsSent pages (around old) (around new) outcome → IsSent pages (around old) (around other) another → (another ≡ outcome) × LeftAlike new other
 both_sent pages old new other outcome another h g =
     let same : g.told ≡ h.told = one_told (old.shelf.file pages) g.told h.told g.pages_are h.pages_are in
     let k : IsCalled h.told old.wire other.wire g.outcomes g.logon = subst (λ (z : Told). IsCalled z old.wire other.wire g.outcomes g.logon) same g.called in
     let u = h.called in
     let c = same_call h.told (old.wire.connection old.wire.opened).rest u.fed k.fed u.marks k.marks h.outcomes g.outcomes u.said k.said h.logon g.logon u.comes k.comes in (
       g.outcome_is ∙ (ap₂ (λ (l : Logon) (o : List PageOutcome). Ended (status_of (Over l) (all_sent o))) c.logons c.outcomes ∙ sym h.outcome_is),
-      record {
-        said = called_alike h.told old.wire new.wire other.wire h.outcomes g.outcomes h.logon g.logon u k;
-        held = g.held ∙ (ap (λ (o : List PageOutcome). old.out.held ++ outcome_lines o) c.outcomes ∙ sym h.held);
-      },
+      kept_alike old new other h.kept g.kept (called_alike h.told old.wire new.wire other.wire h.outcomes g.outcomes h.logon g.logon u k)
+          (g.held ∙ (ap (λ (o : List PageOutcome). old.streams.out.held ++ outcome_lines o) c.outcomes ∙ sym h.held)),
     )
 
 -- two that are refused
-both_misread : (pages : List ℕ) (old new other : Around) (outcome another : Outcome) → IsMisread pages old new outcome → IsMisread pages old other another → (another ≡ outcome) × SameSending new other
+both_misread : (pages : List ℕ) (old new other : Objects) (outcome another : Outcome) → IsMisread pages (around old) (around new) outcome → IsMisread pages (around old) (around other) another → (another ≡ outcome) × LeftAlike new other
 both_misread pages old new other outcome another h k = (
   k.outcome_is ∙ (ap (λ (x : PagesFault). Misread x) (one_fault (old.shelf.file pages) h.fault k.fault h.not_memory k.not_memory h.refused k.refused) ∙ sym h.outcome_is),
-  record {
-    said = λ j. ap (λ (w : Line). (w.connection j).said) (k.wire ∙ sym h.wire);
-    held = ap (λ (o : Written ℕ). o.held) (k.out ∙ sym h.out);
-  },
+  kept_alike old new other h.kept k.kept (same_said old.wire new.wire other.wire h.wire k.wire) (ap (λ (o : Written ℕ). o.held) (k.out ∙ sym h.out)),
 )
 
 pub one_send : OneSend
 one_send address pages old new other outcome another fit h k some some2 =
     elim (view address pages (around old) (around new) outcome fit some h.row) [
       | inl sent ↦ elim (view address pages (around old) (around other) another fit some2 k.row) [
-        | inl sent2 ↦ both_sent pages (around old) (around new) (around other) outcome another sent sent2
+        | inl sent2 ↦ both_sent pages old new other outcome another sent sent2
         | inr misread2 ↦ not_refused (old.shelf.file pages) sent.told misread2.fault misread2.not_memory sent.pages_are misread2.refused
       ]
       | inr misread ↦ elim (view address pages (around old) (around other) another fit some2 k.row) [
         | inl sent2 ↦ not_refused (old.shelf.file pages) sent2.told misread.fault misread.not_memory sent2.pages_are misread.refused
-        | inr misread2 ↦ both_misread pages (around old) (around new) (around other) outcome another misread misread2
+        | inr misread2 ↦ both_misread pages old new other outcome another misread misread2
       ]
     ]

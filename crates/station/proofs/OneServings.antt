@@ -14,7 +14,6 @@ use Rattle.wires.specs.Line.{Line}
 use Rattle.wires.specs.Written.{Written}
 use Rattle.station.specs.declared.session.SessionEnd.{SessionEnd}
 use Rattle.station.specs.InTurn.{IsAt}
-use Rattle.station.specs.OneStation.{SameServing}
 use Rattle.station.specs.ReportLine.{report_line}
 use Rattle.station.specs.Served.{AllFrom, FitWire, IsWhole, Served, airs, line_for, lines}
 use Rattle.station.specs.Serving.{Around, AtDone}
@@ -77,10 +76,16 @@ is_all : (settings : Parts) (spare most : ℕ) (old new : Around) (address name 
     → IsAll old.wire.count old.wire.opened most (length h.sessions)
 is_all settings spare most old new address name t h = elim h.all [ inl e ↦ inl e | inr f ↦ inr (let after = wire_after old.wire new.wire h.sessions h.wire in omega (arith, f t, after.keeps.count, after.opened t)) ]
 
+-- What was said on each connection, the file of the air, and what the output holds are the same.
+pub record ServedAlike (air : List ℕ) (new other : Around) : Type 0 where
+  pub said : (k : ℕ) → (other.wire.connection k).said ≡ (new.wire.connection k).said
+  pub sent : other.shelf.file air ≡ new.shelf.file air
+  pub held : other.out.held ≡ new.out.held
+
 -- two servings over fit objects
 pub done_alike : (settings : Parts) (spare most : ℕ) (w : Line) (f f2 : Files) (o : Written ℕ) (new other : Around) (address name : List ℕ) → FitWire settings spare w most
     → IsTrue f.tells → IsTrue f2.tells → IsTrue o.tells
-    → AtDone settings spare (record { wire = w; shelf = f; out = o }) new address name most → AtDone settings spare (record { wire = w; shelf = f2; out = o }) other address name most → SameServing name new other
+    → AtDone settings spare (record { wire = w; shelf = f; out = o }) new address name most → AtDone settings spare (record { wire = w; shelf = f2; out = o }) other address name most → ServedAlike name new other
 done_alike settings spare most w f f2 o new other address name fit tf tf2 to h k =
     let after = wire_after w new.wire h.sessions h.wire in
     let after2 = wire_after w other.wire k.sessions k.wire in

@@ -1,5 +1,5 @@
 -- What `station` comes to where no call fails.
-use Rattle.std.proofs.Common.{◌≡◌, ◌≢◌, ℕ, ◌*◌, ◌≤◌, ◌⊎◌, inl, inr, List, length, Ok, Err, IsTrue, refl, sym, ◌∙◌, ap, subst}
+use Rattle.std.proofs.Common.{◌≡◌, ◌≢◌, ℕ, ◌*◌, ◌≤◌, ◌⊎◌, inl, inr, Bool, true, false, List, length, Ok, Err, IsTrue, refl, sym, ◌∙◌, ap, subst}
 use Rattle.subscribers.specs.Parts.{Parts}
 use Rattle.subscribers.specs.Settings.{settings_of}
 use Rattle.subscribers.specs.declared.faults.SettingsFault.{SettingsFault}
@@ -12,12 +12,14 @@ use Rattle.station.specs.declared.outcomes.Outcome.{Outcome}
 use Rattle.station.specs.declared.outcomes.Outcome.TheVariants.{Ended, Misread, Refused}
 use Rattle.station.specs.declared.statuses.Status.{Status}
 use Rattle.station.specs.declared.statuses.Status.TheVariants.{Done, FileFault, Memory, OutFault, WireFault}
-use Rattle.station.specs.OneStation.{FitStation, OneStation, SameServing}
+use Rattle.station.specs.OneStation.{FitStation, OneStation}
 use Rattle.station.specs.ReadFile.{Unharmed}
-use Rattle.station.specs.Rows.{around}
+use Rattle.station.specs.OneOutcome.{LeftAlike}
+use Rattle.station.specs.Rows.{Objects, around}
 use Rattle.station.specs.Served.{FitOut, FitShelf, FitWire, airs}
 use Rattle.station.specs.Serving.{Around, AtDone, HasServed}
 use Rattle.station.specs.StationRows.{ServedBy, StationRow, with_shelf}
+use Rattle.station.proofs.LeftAlike.{kept_alike, same_or_other, same_said}
 use Rattle.station.proofs.OneServings.{done_alike}
 use Rattle.station.proofs.WholeSessions.{next_fit}
 use Rattle.station.proofs.OneSettings.{ok_and_err, one_err, one_ok}
@@ -50,17 +52,18 @@ pub record IsServed (settings address air : List ℕ) (count : ℕ) (old new : A
   pub parts : Parts
   pub shelf : Files
   pub tells : IsTrue shelf.tells
+  pub kept : all_files shelf ≡ all_files old.shelf
   pub settings_are : settings_of (old.shelf.file settings) ≡ Ok parts
   pub done : AtDone parts parts.cells (with_shelf old shelf) new address air count
   pub outcome_is : outcome ≡ Ended Done
 
 -- The settings are refused, and nothing was touched.
-pub record IsRefused (settings air : List ℕ) (old new : Around) (outcome : Outcome) : Type 0 where
+pub record IsRefused (settings : List ℕ) (old new : Around) (outcome : Outcome) : Type 0 where
   pub fault : SettingsFault
   pub settings_are : settings_of (old.shelf.file settings) ≡ Err fault
   pub wire : new.wire ≡ old.wire
   pub out : new.out ≡ old.out
-  pub file : new.shelf.file air ≡ old.shelf.file air
+  pub kept : all_files new.shelf ≡ all_files old.shelf
   pub outcome_is : outcome ≡ Refused fault
 
 is_served : (settings address air : List ℕ) (count : ℕ) (old new : Around) (status : Status) → FitStation settings air count old → ServedBy address settings air count old new status
@@ -73,6 +76,7 @@ is_served settings address air count old new status fit h =
       parts = h.parts;
       shelf = h.shelf;
       tells = still h.read.unharmed.kept.tells fit.tells;
+      kept = h.read.unharmed.kept.files;
       settings_are = are;
       done = s.1;
       outcome_is = ap (λ (x : Status). Ended x) s.0;
@@ -80,13 +84,13 @@ is_served settings address air count old new status fit h =
 
 -- what a row comes to
 view : (settings address air : List ℕ) (count : ℕ) (old new : Around) (outcome : Outcome) → FitStation settings air count old → outcome ≢ Ended Memory → StationRow address settings air count old new outcome
-    → IsServed settings address air count old new outcome ⊎ IsRefused settings air old new outcome
+    → IsServed settings address air count old new outcome ⊎ IsRefused settings old new outcome
 view settings address air count old new (Refused fault) fit some h = inr (record {
   fault = fault;
   settings_are = h.0.refused fit.tells;
   wire = h.1.wire;
   out = h.1.out;
-  file = ap (λ (x : OtherFiles). x.file air) h.0.unharmed.kept.files;
+  kept = h.0.unharmed.kept.files;
   outcome_is = refl;
 })
 view settings address air count old new (Misread fault) fit some h = elim h [ ]
@@ -95,36 +99,54 @@ view settings address air count old new (Ended FileFault) fit some (inl h) = abs
 view settings address air count old new (Ended FileFault) fit some (inr h) = inl (is_served settings address air count old new FileFault fit h)
 view settings address air count old new (Ended status) fit some h = inl (is_served settings address air count old new status fit h)
 
+-- each file is the same after both
+files_alike : (settings address air : List ℕ) (count : ℕ) (old new other : Around) (outcome another : Outcome) → (h : IsServed settings address air count old new outcome)
+    → (k : IsServed settings address air count old other another) → other.shelf.file air ≡ new.shelf.file air → (name : List ℕ)
+    → (other.shelf.there name ≡ new.shelf.there name) × (other.shelf.file name ≡ new.shelf.file name)
+files_alike settings address air count old new other outcome another h k sent name = elim (same_or_other air name) [
+  | inl e ↦ subst (λ (n : List ℕ). (other.shelf.there n ≡ new.shelf.there n) × (other.shelf.file n ≡ new.shelf.file n)) e (both_there (other.shelf.there air) (new.shelf.there air) (k.done.file.there k.tells) (h.done.file.there h.tells), sent)
+  | inr n ↦ (
+    let a = h.done.file.others name (λ e. n (sym e)) in
+    let b = k.done.file.others name (λ e. n (sym e)) in
+    let e : all_files k.shelf ≡ all_files h.shelf = k.kept ∙ sym h.kept in
+    (b.there ∙ (ap (λ (x : OtherFiles). x.there name) e ∙ sym a.there), b.file ∙ (ap (λ (x : OtherFiles). x.file name) e ∙ sym a.file))
+  )
+]
+  where
+    both_there : (x y : Bool) → IsTrue x → IsTrue y → x ≡ y
+    both_there true true p q = refl
+    both_there true false p q = elim q [ ]
+    both_there false y p q = elim p [ ]
+
 -- two that were served
-both_served : (settings address air : List ℕ) (count : ℕ) (old new other : Around) (outcome another : Outcome) → FitStation settings air count old → IsServed settings address air count old new outcome
-    → IsServed settings address air count old other another → (another ≡ outcome) × SameServing air new other
+both_served : (settings address air : List ℕ) (count : ℕ) (old new other : Objects) (outcome another : Outcome) → FitStation settings air count (around old) → IsServed settings address air count (around old) (around new) outcome
+    → IsServed settings address air count (around old) (around other) another → (another ≡ outcome) × LeftAlike new other
 both_served settings address air count old new other outcome another fit h k =
     let same : k.parts ≡ h.parts = one_ok (settings_of (old.shelf.file settings)) h.parts k.parts h.settings_are k.settings_are in
-    let done : AtDone h.parts h.parts.cells (with_shelf old k.shelf) other address air count = subst (λ (p : Parts). AtDone p p.cells (with_shelf old k.shelf) other address air count) same k.done in (
+    let done : AtDone h.parts h.parts.cells (with_shelf (around old) k.shelf) (around other) address air count = subst (λ (p : Parts). AtDone p p.cells (with_shelf (around old) k.shelf) (around other) address air count) same k.done in
+    let made = done_alike h.parts h.parts.cells count old.wire h.shelf k.shelf old.streams.out (around new) (around other) address air (fit.wire h.parts h.settings_are) h.tells k.tells (fit.out).tells h.done done in
+    let files = files_alike settings address air count (around old) (around new) (around other) outcome another h k made.sent in (
       k.outcome_is ∙ sym h.outcome_is,
-      done_alike h.parts h.parts.cells count old.wire h.shelf k.shelf old.out new other address air (fit.wire h.parts h.settings_are) h.tells k.tells (fit.out).tells h.done done,
+      record { out = made.held; there = λ name. (files name).0; files = λ name. (files name).1; said = made.said },
     )
 
 -- two that are refused
-both_refused : (settings air : List ℕ) (old new other : Around) (outcome another : Outcome) → IsRefused settings air old new outcome → IsRefused settings air old other another → (another ≡ outcome) × SameServing air new other
-both_refused settings air old new other outcome another h k = (
+both_refused : (settings : List ℕ) (old new other : Objects) (outcome another : Outcome) → IsRefused settings (around old) (around new) outcome → IsRefused settings (around old) (around other) another
+    → (another ≡ outcome) × LeftAlike new other
+both_refused settings old new other outcome another h k = (
   k.outcome_is ∙ (ap (λ (x : SettingsFault). Refused x) (one_err (settings_of (old.shelf.file settings)) h.fault k.fault h.settings_are k.settings_are) ∙ sym h.outcome_is),
-  record {
-    said = λ j. ap (λ (w : Line). (w.connection j).said) (k.wire ∙ sym h.wire);
-    sent = k.file ∙ sym h.file;
-    held = ap (λ (o : Written ℕ). o.held) (k.out ∙ sym h.out);
-  },
+  kept_alike old new other h.kept k.kept (same_said old.wire new.wire other.wire h.wire k.wire) (ap (λ (o : Written ℕ). o.held) (k.out ∙ sym h.out)),
 )
 
 pub one_station : OneStation
 one_station address settings air count old new other outcome another fit h k some some2 =
     elim (view settings address air count (around old) (around new) outcome fit some h.row) [
       | inl served ↦ elim (view settings address air count (around old) (around other) another fit some2 k.row) [
-        | inl served2 ↦ both_served settings address air count (around old) (around new) (around other) outcome another fit served served2
+        | inl served2 ↦ both_served settings address air count old new other outcome another fit served served2
         | inr refused2 ↦ ok_and_err (settings_of (old.shelf.file settings)) served.parts refused2.fault served.settings_are refused2.settings_are
       ]
       | inr refused ↦ elim (view settings address air count (around old) (around other) another fit some2 k.row) [
         | inl served2 ↦ ok_and_err (settings_of (old.shelf.file settings)) served2.parts refused.fault served2.settings_are refused.settings_are
-        | inr refused2 ↦ both_refused settings air (around old) (around new) (around other) outcome another refused refused2
+        | inr refused2 ↦ both_refused settings old new other outcome another refused refused2
       ]
     ]

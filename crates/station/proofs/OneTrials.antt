@@ -15,7 +15,7 @@ use Rattle.tap_terminal.proofs.Fronts.{fronts, session_exists}
 use Rattle.tap_terminal.proofs.Sessions.{one_session}
 use Rattle.wires.proofs.Noise.{noisy_bits-append}
 use Rattle.wires.proofs.Written.{and_one, still}
-use Rattle.wires.specs.Files.{Files}
+use Rattle.wires.specs.Files.{Files, all_files}
 use Rattle.wires.specs.Held.{OtherFiles}
 use Rattle.wires.specs.Left.{Left}
 use Rattle.wires.specs.Stacked.{noisy_bits}
@@ -31,6 +31,7 @@ use Rattle.station.specs.Rows.{Streams}
 use Rattle.station.specs.Sessions.{SessionOf}
 use Rattle.station.specs.StationRows.{TrialRow, TriedBy}
 use Rattle.station.specs.Trying.{TriedAll, Tries, trial_lines}
+use Rattle.station.proofs.LeftAlike.{kept_alike, same_said}
 use Rattle.station.proofs.OneAir.{one_air}
 use Rattle.station.proofs.OneSettings.{ok_and_err, one_err, one_ok}
 use Rattle.station.proofs.Trials.{air_of}
@@ -55,7 +56,7 @@ tries_done settings spare printed input0 input noise0 noise out0 out OutFault it
 tries_done settings spare printed input0 input noise0 noise out0 out other it is nt ns ot os room h = elim h [ ]
 
 -- The settings were read, and all lines of the trial were printed.
-pub record IsTried (settings noise capcodes : List ℕ) (shelf : Files) (streams : Streams) (out : Written ℕ) (outcome : Outcome) : Type 0 where
+pub record IsTried (settings noise capcodes : List ℕ) (shelf new : Files) (streams : Streams) (out : Written ℕ) (outcome : Outcome) : Type 0 where
   pub parts : Parts
   pub settings_are : settings_of (shelf.file settings) ≡ Ok parts
   pub session : Session
@@ -63,17 +64,19 @@ pub record IsTried (settings noise capcodes : List ℕ) (shelf : Files) (streams
   pub air : List Bool
   pub is_air : IsAir session.pages air
   pub held : out.held ≡ streams.out.held ++ trial_lines (play_lines capcodes) session (noisy_bits air (bytes_bits (shelf.file noise)))
+  pub kept : all_files new ≡ all_files shelf
   pub outcome_is : outcome ≡ Ended Done
 
 -- The settings are refused, and nothing was printed.
-pub record IsUntried (settings : List ℕ) (shelf : Files) (streams : Streams) (out : Written ℕ) (outcome : Outcome) : Type 0 where
+pub record IsUntried (settings : List ℕ) (shelf new : Files) (streams : Streams) (out : Written ℕ) (outcome : Outcome) : Type 0 where
   pub fault : SettingsFault
   pub settings_are : settings_of (shelf.file settings) ≡ Err fault
   pub out_stays : out ≡ streams.out
+  pub kept : all_files new ≡ all_files shelf
   pub outcome_is : outcome ≡ Refused fault
 
 is_tried : (settings noise capcodes : List ℕ) (shelf new : Files) (streams : Streams) (input : Left ℕ) (out : Written ℕ) (status : Status) → FitTrial settings noise capcodes shelf streams
-    → TriedBy settings noise capcodes streams.input input shelf new streams.out out status → IsTried settings noise capcodes shelf streams out (Ended status)
+    → TriedBy settings noise capcodes streams.input input shelf new streams.out out status → IsTried settings noise capcodes shelf new streams out (Ended status)
 is_tried settings noise capcodes shelf new streams input out status fit h =
     let are = h.read.settings_are fit.tells in
     let b = h.tried.bits_are in
@@ -96,13 +99,14 @@ is_tried settings noise capcodes shelf new streams input out status fit h =
       is_air = t.is_air;
       held = d.1.wrote.held fit.out_tells
           ∙ ap (λ (z : List Bool). streams.out.held ++ trial_lines (play_lines capcodes) t.session z) (d.1.of_noise tells ∙ ap (noisy_bits t.air) file);
+      kept = h.tried.kept.files ∙ kept;
       outcome_is = ap (λ (x : Status). Ended x) d.0;
     }
 
 -- what a row comes to
 view : (settings noise capcodes : List ℕ) (shelf new : Files) (streams : Streams) (input : Left ℕ) (out : Written ℕ) (outcome : Outcome) → FitTrial settings noise capcodes shelf streams → outcome ≢ Ended Memory
-    → TrialRow settings noise capcodes streams.input input shelf new streams.out out outcome → IsTried settings noise capcodes shelf streams out outcome ⊎ IsUntried settings shelf streams out outcome
-view settings noise capcodes shelf new streams input out (Refused fault) fit some h = inr (record { fault = fault; settings_are = h.0.refused fit.tells; out_stays = h.2; outcome_is = refl })
+    → TrialRow settings noise capcodes streams.input input shelf new streams.out out outcome → IsTried settings noise capcodes shelf new streams out outcome ⊎ IsUntried settings shelf new streams out outcome
+view settings noise capcodes shelf new streams input out (Refused fault) fit some h = inr (record { fault = fault; settings_are = h.0.refused fit.tells; out_stays = h.2; kept = h.0.unharmed.kept.files; outcome_is = refl })
 view settings noise capcodes shelf new streams input out (Misread fault) fit some h = elim h [ ]
 view settings noise capcodes shelf new streams input out (Ended Memory) fit some h = absurd (some refl)
 view settings noise capcodes shelf new streams input out (Ended FileFault) fit some (inl h) = absurd (h.0.unsteady fit.tells fit.steady fit.there)
@@ -110,9 +114,9 @@ view settings noise capcodes shelf new streams input out (Ended FileFault) fit s
 view settings noise capcodes shelf new streams input out (Ended status) fit some h = inl (is_tried settings noise capcodes shelf new streams input out status fit h)
 
 -- two that were tried
-both_tried : (settings noise capcodes : List ℕ) (shelf : Files) (streams : Streams) (out out2 : Written ℕ) (outcome another : Outcome) → IsTried settings noise capcodes shelf streams out outcome
-    → IsTried settings noise capcodes shelf streams out2 another → (another ≡ outcome) × (out2.held ≡ out.held)
-both_tried settings noise capcodes shelf streams out out2 outcome another h k =
+both_tried : (settings noise capcodes : List ℕ) (shelf new other : Files) (streams : Streams) (out out2 : Written ℕ) (outcome another : Outcome) → IsTried settings noise capcodes shelf new streams out outcome
+    → IsTried settings noise capcodes shelf other streams out2 another → (another ≡ outcome) × (out2.held ≡ out.held)
+both_tried settings noise capcodes shelf new other streams out out2 outcome another h k =
     let same : k.parts ≡ h.parts = one_ok (settings_of (shelf.file settings)) h.parts k.parts h.settings_are k.settings_are in
     let session : k.session ≡ h.session =
     one_session h.parts.password (directory_of h.parts) h.parts.cells (characters streams.input.left) k.session h.session
@@ -124,16 +128,20 @@ both_tried settings noise capcodes shelf streams out out2 outcome another h k =
 
 pub one_trial : OneTrial
 one_trial settings noise capcodes old new other outcome another fit h k some some2 =
+    let said = same_said old.wire new.wire other.wire h.wire k.wire in
     elim (view settings noise capcodes old.shelf new.shelf old.streams new.streams.input new.streams.out outcome fit some h.row) [
       | inl tried ↦ elim (view settings noise capcodes old.shelf other.shelf old.streams other.streams.input other.streams.out another fit some2 k.row) [
-        | inl tried2 ↦ both_tried settings noise capcodes old.shelf old.streams new.streams.out other.streams.out outcome another tried tried2
+        | inl tried2 ↦ (
+          let b = both_tried settings noise capcodes old.shelf new.shelf other.shelf old.streams new.streams.out other.streams.out outcome another tried tried2 in
+          (b.0, kept_alike old new other tried.kept tried2.kept said b.1)
+        )
         | inr refused2 ↦ ok_and_err (settings_of (old.shelf.file settings)) tried.parts refused2.fault tried.settings_are refused2.settings_are
       ]
       | inr refused ↦ elim (view settings noise capcodes old.shelf other.shelf old.streams other.streams.input other.streams.out another fit some2 k.row) [
         | inl tried2 ↦ ok_and_err (settings_of (old.shelf.file settings)) tried2.parts refused.fault tried2.settings_are refused.settings_are
         | inr refused2 ↦ (
           refused2.outcome_is ∙ (ap (λ (x : SettingsFault). Refused x) (one_err (settings_of (old.shelf.file settings)) refused.fault refused2.fault refused.settings_are refused2.settings_are) ∙ sym refused.outcome_is),
-          ap (λ (o : Written ℕ). o.held) (refused2.out_stays ∙ sym refused.out_stays),
+          kept_alike old new other refused.kept refused2.kept said (ap (λ (o : Written ℕ). o.held) (refused2.out_stays ∙ sym refused.out_stays)),
         )
       ]
     ]

@@ -4,12 +4,13 @@ use Rattle.wires.specs.Files.{Files, longest_name}
 use Rattle.wires.specs.Held.{Connection}
 use Rattle.wires.specs.Left.{Left}
 use Rattle.wires.specs.Line.{Line}
+use Rattle.wires.specs.Stacked.{are_bytes}
 use Rattle.wires.specs.Written.{Written}
 use Rattle.station.specs.Commands.{Command, One, Play, Send, Show, Station, Trial}
 use Rattle.station.specs.OneRun.{FitErr, FitRun}
 use Rattle.station.specs.Rows.{Objects, Outside, Streams}
 
--- The objects tell what they hold, and are steady.
+-- The objects tell what they hold, and are steady. The output holds bytes.
 pub record AreSteady (old : Objects) : Type 0 where
   pub wire_tells : IsTrue old.wire.tells
   pub wire_steady : IsTrue old.wire.steady
@@ -19,6 +20,7 @@ pub record AreSteady (old : Objects) : Type 0 where
   pub input_steady : IsTrue old.streams.input.steady
   pub out_tells : IsTrue old.streams.out.tells
   pub out_steady : IsTrue old.streams.out.steady
+  pub out_bytes : IsTrue (are_bytes old.streams.out.held)
 
 -- the same objects with so much room on each connection, in a fresh file, and in the output
 abbrev pub roomy_connection : ℕ → Connection → Connection

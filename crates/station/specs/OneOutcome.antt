@@ -15,10 +15,13 @@ use Rattle.station.specs.Rows.{Objects, RunsOne, RunsPlay, RunsShow, Streams}
 use Rattle.station.specs.Table.{table_of}
 use Rattle.station.specs.Wrote.{FitFor}
 
--- Two runs came to the same: the status, and what they made.
-pub record SameOutcome {A : Type 0} (status another : Status) (made again : A) : Type 0 where
-  pub ends_alike : another ≡ status
-  pub makes_alike : again ≡ made
+-- Two runs left the same bytes: in the output, in each file, and said on each connection. What was read at a time, and how far a
+-- connection was read beyond the end of its session, may differ.
+pub record LeftAlike (new other : Objects) : Type 0 where
+  pub out : other.streams.out.held ≡ new.streams.out.held
+  pub there : (name : List ℕ) → other.shelf.there name ≡ new.shelf.there name
+  pub files : (name : List ℕ) → other.shelf.file name ≡ new.shelf.file name
+  pub said : (k : ℕ) → (other.wire.connection k).said ≡ (new.wire.connection k).said
 
 -- The shelf is steady, and the file is there.
 pub record FitFile (name : List ℕ) (shelf : Files) : Type 0 where
@@ -31,30 +34,30 @@ abbrev pub bits_listened : List ℕ → Files → List Bool
 bits_listened name shelf = take most_bits (bytes_bits (shelf.file name))
 
 -- Over a steady shelf that has the file, and a steady output with room for the lines, two runs of `play` that had memory answer the
--- same, and the output holds the same after both.
+-- same, and leave the same.
 abbrev pub OnePlay : Type 0
 OnePlay = (capcodes air : List ℕ) (old new other : Objects) (status another : Status) → FitFile air old.shelf → FitFor old.streams.out (play_lines capcodes (bits_listened air old.shelf))
     → RunsPlay capcodes air old new status → RunsPlay capcodes air old other another → status ≢ Memory → another ≢ Memory
-    → SameOutcome status another new.streams.out.held other.streams.out.held
+    → (another ≡ status) × LeftAlike new other
 
 -- the same of `show`, which takes no memory
 abbrev pub OneShow : Type 0
 OneShow = (air : List ℕ) (old new other : Objects) (status another : Status) → FitFile air old.shelf → FitFor old.streams.out (table_of (bits_listened air old.shelf))
     → RunsShow air old new status → RunsShow air old other another
-    → SameOutcome status another new.streams.out.held other.streams.out.held
+    → (another ≡ status) × LeftAlike new other
 
--- The input is steady, and the output too, with room for the transmission of the page of the input.
+-- The input is steady, and the output too, which holds bytes and has room for the transmission of the page of the input.
 pub record FitOne (capcode : ℕ) (old : Streams) : Type 0 where
   pub input_tells : IsTrue old.input.tells
   pub input_steady : IsTrue old.input.steady
   pub tells : IsTrue old.out.tells
   pub steady : IsTrue old.out.steady
+  pub of_bytes : IsTrue (are_bytes old.out.held)
   pub room : (body text : List ℕ) (bits : List Bool) → IsMarkedBlock (characters old.input.left) body true → HasText body text → IsAir (alpha_page capcode text ∷ []) bits
       → length bits ≤ 8 * old.out.room
 
--- Over a steady input and a steady output with room, two runs of `one` that had memory answer the same, and the output holds the same
--- bits after both, and the same bytes where it held bytes before.
+-- Over a steady input and a steady output with room, two runs of `one` that had memory answer the same, and leave the same.
 abbrev pub OneOne : Type 0
 OneOne = (capcode : ℕ) (old new other : Objects) (status another : Status) → FitOne capcode old.streams
     → RunsOne capcode old new status → RunsOne capcode old other another → status ≢ Memory → another ≢ Memory
-    → SameOutcome status another (bytes_bits new.streams.out.held) (bytes_bits other.streams.out.held) × (IsTrue (are_bytes old.streams.out.held) → other.streams.out.held ≡ new.streams.out.held)
+    → (another ≡ status) × LeftAlike new other

@@ -6,9 +6,9 @@ use Rattle.station.specs.declared.outcomes.Outcome.{Outcome}
 use Rattle.station.specs.declared.statuses.Status.{Status}
 use Rattle.station.specs.declared.statuses.Status.TheVariants.{Memory}
 use Rattle.station.specs.Commands.{AreCommand, Command, One, Play, Send, Show, Station, Trial}
-use Rattle.station.specs.OneOutcome.{FitFile, FitOne, bits_listened}
-use Rattle.station.specs.OneSend.{FitSend, SameSending}
-use Rattle.station.specs.OneStation.{FitStation, SameServing}
+use Rattle.station.specs.OneOutcome.{FitFile, FitOne, LeftAlike, bits_listened}
+use Rattle.station.specs.OneSend.{FitSend}
+use Rattle.station.specs.OneStation.{FitStation}
 use Rattle.station.specs.OneTrial.{FitTrial}
 use Rattle.station.specs.Outcomes.{line_about}
 use Rattle.station.specs.PageLines.{play_lines}
@@ -26,13 +26,6 @@ FitRun (Some (Station address settings air count)) old = FitStation settings air
 FitRun (Some (Trial settings noise capcodes)) old = FitTrial settings noise capcodes old.shelf old.streams
 FitRun (Some (Send address pages)) old = FitSend pages (around old)
 
--- what two runs of a command over these objects made is the same
-abbrev pub MadeAlike : Option Command → Objects → Objects → Objects → Type 0
-MadeAlike None old new other = other ≡ new
-MadeAlike (Some (One capcode)) old new other = (bytes_bits other.streams.out.held ≡ bytes_bits new.streams.out.held) × (IsTrue (are_bytes old.streams.out.held) → other.streams.out.held ≡ new.streams.out.held)
-MadeAlike (Some (Station address settings air count)) old new other = SameServing air (around new) (around other)
-MadeAlike (Some (Send address pages)) old new other = SameSending (around new) (around other)
-MadeAlike (Some command) old new other = other.streams.out.held ≡ new.streams.out.held
 
 -- The output of errors is steady, and has room for the line about whatever the command may come to.
 pub record FitErr (command : Option Command) (old : Outside) : Type 0 where
@@ -40,13 +33,13 @@ pub record FitErr (command : Option Command) (old : Outside) : Type 0 where
   pub steady : IsTrue old.err.steady
   pub room : (new : Objects) (outcome : Outcome) → Acts command old.objects new outcome → length (line_about outcome) ≤ old.err.room
 
--- Two runs came to the same.
-pub record SameRun (command : Option Command) (old new other : Outside) (result another : Status) : Type 0 where
+-- Two runs answer the same, and leave the same bytes in the output, in the output of errors, in each file, and said on each connection.
+pub record SameRun (new other : Outside) (result another : Status) : Type 0 where
   pub ends_alike : another ≡ result
-  pub made_alike : MadeAlike command old.objects new.objects other.objects
+  pub left_alike : LeftAlike new.objects other.objects
   pub err_alike : other.err.held ≡ new.err.held
 
 -- Words are one command's or none's, and over objects that are fit for it two runs that had memory come to the same.
 abbrev pub OneRun : Type 0
 OneRun = (words : List (List ℕ)) (command : Option Command) (old new other : Outside) (result another : Status) → AreCommand words command → FitRun command old.objects → FitErr command old
-    → Runs words old new result → Runs words old other another → result ≢ Memory → another ≢ Memory → SameRun command old new other result another
+    → Runs words old new result → Runs words old other another → result ≢ Memory → another ≢ Memory → SameRun new other result another

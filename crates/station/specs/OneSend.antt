@@ -5,6 +5,7 @@ use Rattle.station.specs.declared.outcomes.Outcome.{Outcome}
 use Rattle.station.specs.declared.outcomes.Outcome.TheVariants.{Ended}
 use Rattle.station.specs.declared.statuses.Status.TheVariants.{Memory}
 use Rattle.station.specs.Conversations.{HasRoom}
+use Rattle.station.specs.OneOutcome.{LeftAlike}
 use Rattle.station.specs.Rows.{Objects, RunsSend, around}
 use Rattle.station.specs.Serving.{Around}
 
@@ -22,14 +23,8 @@ pub record FitSend (pages : List ℕ) (old : Around) : Type 0 where
   pub out_steady : IsTrue old.out.steady
   pub out_room : (told : Told) → IsFile (old.shelf.file pages) told → 20 * length told.pages ≤ old.out.room
 
--- What was said on each connection, and what the output holds, are the same. What was read at a time, and how far the connection was read
--- beyond what was due, may differ.
-pub record SameSending (new other : Around) : Type 0 where
-  pub said : (k : ℕ) → (other.wire.connection k).said ≡ (new.wire.connection k).said
-  pub held : other.out.held ≡ new.out.held
-
--- Over fit objects two runs of `send` that had memory come to the same.
+-- Over fit objects two runs of `send` that had memory answer the same, and leave the same.
 abbrev pub OneSend : Type 0
 OneSend = (address pages : List ℕ) (old new other : Objects) (outcome another : Outcome) → FitSend pages (around old)
     → RunsSend address pages old new outcome → RunsSend address pages old other another → outcome ≢ Ended Memory → another ≢ Ended Memory
-    → (another ≡ outcome) × SameSending (around new) (around other)
+    → (another ≡ outcome) × LeftAlike new other

@@ -5,6 +5,7 @@ use Rattle.subscribers.specs.Settings.{settings_of}
 use Rattle.station.specs.declared.outcomes.Outcome.{Outcome}
 use Rattle.station.specs.declared.outcomes.Outcome.TheVariants.{Ended}
 use Rattle.station.specs.declared.statuses.Status.TheVariants.{Memory}
+use Rattle.station.specs.OneOutcome.{LeftAlike}
 use Rattle.station.specs.Rows.{Objects, RunsStation, around}
 use Rattle.station.specs.Served.{FitOut, FitShelf, FitWire}
 use Rattle.station.specs.Serving.{Around}
@@ -18,15 +19,8 @@ pub record FitStation (settings air : List ℕ) (count : ℕ) (old : Around) : T
   pub shelf : (parts : Parts) → settings_of (old.shelf.file settings) ≡ Ok parts → FitShelf parts parts.cells old.wire old.shelf air count
   pub out : FitOut old.out count
 
--- What was said on each connection, the file of the air, and what the output holds are the same. What was read at a time,
--- and how far a connection was read beyond the end of its session, may differ.
-pub record SameServing (air : List ℕ) (new other : Around) : Type 0 where
-  pub said : (k : ℕ) → (other.wire.connection k).said ≡ (new.wire.connection k).said
-  pub sent : other.shelf.file air ≡ new.shelf.file air
-  pub held : other.out.held ≡ new.out.held
-
--- Over fit objects two runs of `station` that had memory come to the same.
+-- Over fit objects two runs of `station` that had memory answer the same, and leave the same.
 abbrev pub OneStation : Type 0
 OneStation = (address settings air : List ℕ) (count : ℕ) (old new other : Objects) (outcome another : Outcome) → FitStation settings air count (around old)
     → RunsStation address settings air count old new outcome → RunsStation address settings air count old other another → outcome ≢ Ended Memory → another ≢ Ended Memory
-    → (another ≡ outcome) × SameServing air (around new) (around other)
+    → (another ≡ outcome) × LeftAlike new other

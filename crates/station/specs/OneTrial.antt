@@ -10,6 +10,7 @@ use Rattle.wires.specs.Stacked.{noisy_bits}
 use Rattle.station.specs.declared.outcomes.Outcome.{Outcome}
 use Rattle.station.specs.declared.outcomes.Outcome.TheVariants.{Ended}
 use Rattle.station.specs.declared.statuses.Status.TheVariants.{Memory}
+use Rattle.station.specs.OneOutcome.{LeftAlike}
 use Rattle.station.specs.PageLines.{play_lines}
 use Rattle.station.specs.Rows.{Objects, RunsTrial, Streams}
 use Rattle.station.specs.Sessions.{SessionOf}
@@ -28,8 +29,8 @@ pub record FitTrial (settings noise capcodes : List ℕ) (shelf : Files) (stream
   pub room : (parts : Parts) → settings_of (shelf.file settings) ≡ Ok parts → (session : Session) (air : List Bool) → SessionOf parts parts.cells streams.input.left session → IsAir session.pages air
       → length (trial_lines (play_lines capcodes) session (noisy_bits air (bytes_bits (shelf.file noise)))) ≤ streams.out.room
 
--- Over fit objects two runs of `trial` that had memory come to the same, and the output holds the same after both.
+-- Over fit objects two runs of `trial` that had memory answer the same, and leave the same.
 abbrev pub OneTrial : Type 0
 OneTrial = (settings noise capcodes : List ℕ) (old new other : Objects) (outcome another : Outcome) → FitTrial settings noise capcodes old.shelf old.streams
     → RunsTrial settings noise capcodes old new outcome → RunsTrial settings noise capcodes old other another → outcome ≢ Ended Memory → another ≢ Ended Memory
-    → (another ≡ outcome) × (other.streams.out.held ≡ new.streams.out.held)
+    → (another ≡ outcome) × LeftAlike new other
