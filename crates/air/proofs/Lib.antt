@@ -6,3 +6,4 @@ pub mod Whole
 pub mod WithSync
 pub mod Orders
 pub mod Bits
+pub mod OneAir

@@ -45,7 +45,7 @@ use Rattle.station.specs.Trying.{trial_lines}
 use Rattle.station.proofs.AirRooms.{air_few, shelf_fits}
 use Rattle.station.proofs.CallRooms.{call_fits}
 use Rattle.station.proofs.EntryNumbers.{refusal_few}
-use Rattle.station.proofs.OneAir.{one_air}
+use Rattle.air.proofs.OneAir.{one_air}
 
 -- ---- sums of the first values of a function
 

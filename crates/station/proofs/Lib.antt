@@ -23,6 +23,7 @@ pub mod GroupsHeard
 pub mod Answered
 pub mod NoisyHeard
 pub mod LeftBits
+pub mod LeftPool
 pub mod FewBits
 pub mod Trials
 pub mod Connections
@@ -62,7 +63,6 @@ pub mod Told
 pub mod TriedWell
 pub mod WellListened
 pub mod OneOutcomes
-pub mod OneAir
 pub mod OneBytes
 pub mod OneOfOne
 pub mod OneServings

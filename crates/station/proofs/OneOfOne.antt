@@ -15,7 +15,7 @@ use Rattle.station.specs.LoneBlock.{HasText}
 use Rattle.station.specs.OneOutcome.{FitOne, OneOne}
 use Rattle.station.specs.Rows.{OneRow, PageSent, ReadBadText, ReadBlock, ReadNoBlock, Streams}
 use Rattle.station.proofs.LeftAlike.{kept_alike, same_said}
-use Rattle.station.proofs.OneAir.{one_air}
+use Rattle.air.proofs.OneAir.{one_air}
 use Rattle.station.proofs.OneBytes.{one_bytes, still_bytes}
 use Rattle.station.proofs.OneAnswer.{one_block, one_text}
 

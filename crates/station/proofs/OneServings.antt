@@ -18,7 +18,7 @@ use Rattle.station.specs.ReportLine.{report_line}
 use Rattle.station.specs.Served.{AllFrom, FitWire, IsWhole, Served, airs, line_for, lines}
 use Rattle.station.specs.Serving.{Around, AtDone}
 use Rattle.station.proofs.InTurn.{wire_after}
-use Rattle.station.proofs.OneAir.{one_air}
+use Rattle.air.proofs.OneAir.{one_air}
 use Rattle.station.proofs.OneBytes.{one_bytes}
 use Rattle.station.proofs.WholeSessions.{ends_as, turn-well}
 

@@ -32,7 +32,7 @@ use Rattle.station.specs.Sessions.{SessionOf}
 use Rattle.station.specs.StationRows.{TrialRow, TriedBy}
 use Rattle.station.specs.Trying.{TriedAll, Tries, trial_lines}
 use Rattle.station.proofs.LeftAlike.{kept_alike, same_said}
-use Rattle.station.proofs.OneAir.{one_air}
+use Rattle.air.proofs.OneAir.{one_air}
 use Rattle.station.proofs.OneSettings.{ok_and_err, one_err, one_ok}
 use Rattle.station.proofs.Trials.{air_of}
 use Rattle.station.proofs.TriedWell.{tried_well}

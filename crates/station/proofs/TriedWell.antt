@@ -16,7 +16,7 @@ use Rattle.station.specs.Answers.{answer_lines}
 use Rattle.station.specs.Sessions.{SessionOf}
 use Rattle.station.specs.Trying.{TrialOutWell, TriedSession, Tries, trial_lines}
 use Rattle.station.proofs.Listens.{length-front}
-use Rattle.station.proofs.OneAir.{one_air}
+use Rattle.air.proofs.OneAir.{one_air}
 use Rattle.station.proofs.WellListened.{wrote_well}
 
 -- the answers are no longer than all lines

@@ -81,10 +81,3 @@ pub record HasTried (settings : Parts) (spare : ℕ) (printed : List Bool → Li
 pub record HearingLeaves (before after : Pool) (status : Status) : Type 0 where
   pub cells_stay : cells after ≡ cells before
   pub all : status ≡ Done → after.live ≡ []
-
--- What hearing leaves of a source of bits: a rest, which is empty behind Done, and what it holds of others.
-pub record LeavesBits (old new : Left Bool) (status : Status) : Type 0 where
-  pub taken : List Bool
-  pub left : old.left ≡ taken ++ new.left
-  pub all : status ≡ Done → new.left ≡ []
-  pub lent : new.lent ≡ old.lent

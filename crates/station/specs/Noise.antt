@@ -85,3 +85,10 @@ pub record ListeningThrough (printed : List Bool → List ℕ) (bits left : List
   pub there : IsTrue old.tells → 0 < length heard → IsTrue old.there
   pub wrote : Wrote out0 out (printed (noisy_bits heard noise))
   pub untouched : heard ≡ [] → now ≡ old
+
+-- What hearing leaves of a source of bits: a rest, which is empty behind Done, and what it holds of others.
+pub record LeavesBits (old new : Left Bool) (status : Status) : Type 0 where
+  pub taken : List Bool
+  pub left : old.left ≡ taken ++ new.left
+  pub all : status ≡ Done → new.left ≡ []
+  pub lent : new.lent ≡ old.lent

@@ -1,8 +1,7 @@
 //! Listening to bits through a noise, some at a time.
 
 ghost use Rattle.std.specs.Prelude.{◌≡◌, ◌<◌, ◌≤◌, ◌^◌, [], ◌++◌, IfOk, IsFalse, IsTrue, drop, length, take};
-ghost use Rattle.station.specs.Leaves.{LeavesBits};
-ghost use Rattle.station.specs.Noise.{ListensThrough, NoiseGives};
+ghost use Rattle.station.specs.Noise.{LeavesBits, ListensThrough, NoiseGives};
 ghost use Rattle.wires.specs.Stacked.{noisy_bits};
 
 use crate::listening::{Listener, MOST_AT_A_TIME, hear_all};

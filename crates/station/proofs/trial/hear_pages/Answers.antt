@@ -4,7 +4,7 @@ use Rattle.station.specs.Leaves.{HearingLeaves}
 use Rattle.station.specs.PageLines.{group_lines}
 use Rattle.station.proofs.FewBits.{few_bits}
 use Rattle.station.proofs.PlayedPages.{group_lines-none}
-use Rattle.station.proofs.LeftBits.{no_live, no_page, same_cells}
+use Rattle.station.proofs.LeftPool.{no_live, no_page, same_cells}
 use Rattle.station.proofs.Trials.{hears_none, no_pages}
 use Rattle.station.proofs.trial.hear_pages.Goals as goal
 
