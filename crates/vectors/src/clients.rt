@@ -1,19 +1,23 @@
 //! Runs of `send`: docs/profile.md, "send" and "outcomes".
 
-use crate::runs::{Left, Object, Objects, files, run_over};
+use crate::runs::{Left, Objects, files, run_over};
 use station::Status;
 use std::alloc::Global;
 use std::test::Fail;
 
 /// Two pages.
-const TWO: &[u8] = b"PG1\n5551234 HELLO\n999 X\n";
+pub(crate) const TWO: &[u8] = b"PG1\n5551234 HELLO\n999 X\n";
 
-/// The pages file; what is heard, and the calls that fail; the status and its code, what is said, the lines of the pages, and the line
-/// about the status.
+/// A terminal that accepts the first of them and abandons the second.
+pub(crate) const HEARD: &[u8] = b"ID=\x06\r\x1B[p\r\x06\r\x1E\r\x1B\x04\r";
+
+/// The words that send them.
+pub(crate) const SEND: &[&str] = &["send", "127.0.0.1:7000", "pages.txt"];
+
+/// The pages file; what is heard; the status and its code, what is said, the lines of the pages, and the line about the status.
 struct Row {
     pages: &'static [u8],
     heard: &'static [u8],
-    faults: &'static [(Object, u64)],
     status: Status,
     code: u8,
     said: &'static [u8],
@@ -21,11 +25,10 @@ struct Row {
     line: &'static [u8],
 }
 
-const ROWS: [Row; 8] = [
+const ROWS: [Row; 6] = [
     Row {
         pages: TWO,
-        heard: b"ID=\x06\r\x1B[p\r\x06\r\x1E\r\x1B\x04\r",
-        faults: &[],
+        heard: HEARD,
         status: Status::SomeUnsent,
         code: 13,
         said: b"\r\x1BPG1\r\x025551234\rHELLO\r\x032?<\r\x02999\rX\r\x03122\r\x04\r",
@@ -35,7 +38,6 @@ const ROWS: [Row; 8] = [
     Row {
         pages: TWO,
         heard: b"ID=\x15\r\x15\r\x15\r",
-        faults: &[],
         status: Status::LogonRefused,
         code: 12,
         said: b"\r\x1BPG1\r\x1BPG1\r\x1BPG1\r",
@@ -45,7 +47,6 @@ const ROWS: [Row; 8] = [
     Row {
         pages: TWO,
         heard: b"ID=\x06\r\x1B[p\r\x15\r\x15\r\x15\r",
-        faults: &[],
         status: Status::SomeUnsent,
         code: 13,
         said: b"\r\x1BPG1\r\x025551234\rHELLO\r\x032?<\r\x025551234\rHELLO\r\x032?<\r\x025551234\rHELLO\r\x032?<\r\x04\r",
@@ -55,7 +56,6 @@ const ROWS: [Row; 8] = [
     Row {
         pages: b"PG1\n5551234 HELLO\n",
         heard: b"ID=\x06\r\x1B[p\r\x06\r\x1B\x04\r",
-        faults: &[],
         status: Status::Done,
         code: 0,
         said: b"\r\x1BPG1\r\x025551234\rHELLO\r\x032?<\r\x04\r",
@@ -65,7 +65,6 @@ const ROWS: [Row; 8] = [
     Row {
         pages: b"PG1\n12a X\n",
         heard: b"ID=",
-        faults: &[],
         status: Status::BadPages,
         code: 15,
         said: b"",
@@ -75,32 +74,11 @@ const ROWS: [Row; 8] = [
     Row {
         pages: b"PG2\n",
         heard: b"ID=",
-        faults: &[],
         status: Status::BadPages,
         code: 15,
         said: b"",
         lines: b"",
         line: b"pocsag: pages file: line 1\n",
-    },
-    Row {
-        pages: TWO,
-        heard: b"ID=",
-        faults: &[(Object::Wire, 1)],
-        status: Status::WireFault,
-        code: 5,
-        said: b"",
-        lines: b"1 no-logon\n2 no-logon\n",
-        line: b"pocsag: line\n",
-    },
-    Row {
-        pages: TWO,
-        heard: b"ID=\x06\r\x1B[p\r\x06\r\x1E\r\x1B\x04\r",
-        faults: &[(Object::Wire, 2)],
-        status: Status::WireFault,
-        code: 5,
-        said: b"",
-        lines: b"1 no-logon\n2 no-logon\n",
-        line: b"pocsag: line\n",
     },
 ];
 
@@ -112,9 +90,9 @@ fn sent(alloc: Global, row: &Row) -> Result<Left, Fail> {
         files: &files,
         input: b"",
         cut: 5,
-        faults: row.faults,
+        faults: &[],
     };
-    run_over(alloc, &["send", "127.0.0.1:7000", "pages.txt"], objects)
+    run_over(alloc, SEND, objects)
 }
 
 #[test]

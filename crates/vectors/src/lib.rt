@@ -12,7 +12,8 @@
 //! - `sessions`: runs of `station`, what `play` then prints, and `accepted` and `refused`, the tables of these sessions.
 //! - `cuts`: one session in every cut.
 //! - `long_sessions`: sessions of very many blocks or characters.
-//! - `stations`: runs of `station` in which a call fails.
+//! - `stations`: runs of `station` that are to serve two connections.
+//! - `failing_calls`: runs in which each call of an object fails in turn, and `stands`, the tables of what they leave.
 //! - `trials`: runs of `trial`.
 //! - `clients`: runs of `send`.
 //! - `refusals`: words that are no command, files that are not there, and settings files that are refused.
@@ -32,6 +33,8 @@ mod clients;
 #[cfg(test)]
 mod cuts;
 #[cfg(test)]
+mod failing_calls;
+#[cfg(test)]
 mod long_files;
 #[cfg(test)]
 mod long_sessions;
@@ -49,6 +52,8 @@ mod refused;
 mod runs;
 #[cfg(test)]
 mod sessions;
+#[cfg(test)]
+mod stands;
 #[cfg(test)]
 mod stations;
 #[cfg(test)]

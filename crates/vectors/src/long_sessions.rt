@@ -1,6 +1,7 @@
 //! Sessions of very many characters or blocks: docs/profile.md, "length of a session" and "room".
 
 use crate::airs::air_of;
+use crate::runs::Left;
 use crate::sessions::{S1, served};
 use station::Status;
 use std::alloc::{AllocError, Global};
@@ -10,12 +11,32 @@ use std::test::Fail;
 const FORCED_LINE: &[u8] =
     b"session 1 forced pages 0 continued 0 nak 0 body 0 content 0 form 0 unknown 0 text 0 room 0 wrong 0\n";
 
+/// Serves a session that begins with these bytes and goes on with more letters `x` than are judged. The last reply is End.
+fn without_end(alloc: Global, front: &[u8]) -> Result<Left, Fail> {
+    let mut heard = Vec::from_slice(alloc, front)?;
+    heard.extend_from_slice(&vec![in alloc; b'x'; 1_000_001]?)?;
+    served(alloc, S1, &heard, 4096)
+}
+
 #[test]
 fn the_millionth_character_ends_a_run(rt: HostRuntime) -> Result<(), Fail> {
-    let heard = vec![in rt.alloc(); b'x'; 1_000_001]?;
-    let left = served(rt.alloc(), S1, &heard, 4096)?;
+    let left = without_end(rt.alloc(), b"")?;
     assert_eq!(rt; left.status, Status::Done);
     assert_eq!(rt; left.said.as_slice(), b"\x1B\x04\r".as_slice());
+    assert_eq!(rt; left.out.as_slice(), FORCED_LINE);
+    assert_eq!(rt; left.air.as_deref(), Some(&[] as &[u8]));
+    Ok(())
+}
+
+/// After Go the only reply is End.
+#[test]
+fn the_millionth_character_ends_an_open_block(rt: HostRuntime) -> Result<(), Fail> {
+    let left = without_end(rt.alloc(), b"\r\x1BPG1\r\x02")?;
+    assert_eq!(rt; left.status, Status::Done);
+    assert_eq!(rt;
+        left.said.as_slice(),
+        b"ID=\x06\r\x1B[p\r\x1B\x04\r".as_slice()
+    );
     assert_eq!(rt; left.out.as_slice(), FORCED_LINE);
     assert_eq!(rt; left.air.as_deref(), Some(&[] as &[u8]));
     Ok(())

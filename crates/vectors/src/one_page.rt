@@ -1,7 +1,7 @@
 //! Runs of `one`: docs/profile.md, "one".
 
 use crate::airs::{ABC, air_of};
-use crate::runs::{Left, Object, Objects, run_over, spelled};
+use crate::runs::{Left, Object, Objects, run_into, run_over, spelled};
 use station::Status;
 use std::alloc::{AllocError, Global};
 use std::test::Fail;
@@ -234,5 +234,24 @@ fn a_failing_object_is_named(rt: HostRuntime) -> Result<(), Fail> {
         assert_eq!(rt; Some(left.out.as_slice()), air.get(..*size));
         assert_eq!(rt; left.err.as_slice(), *line);
     }
+    Ok(())
+}
+
+/// The preamble has room in it, and the batch hasn't.
+#[test]
+fn a_full_output_has_a_front(rt: HostRuntime) -> Result<(), Fail> {
+    let objects = Objects {
+        heard: b"",
+        files: &[],
+        input: ABC_BLOCK,
+        cut: 14,
+        faults: &[],
+    };
+    let left = run_into(rt.alloc(), &["one", "8"], objects, 100)?;
+    let air = air_of(rt.alloc(), 1, ABC)?;
+    assert_eq!(rt; left.status, Status::OutFault);
+    assert_eq!(rt; left.status.code(), 6);
+    assert!(rt; air.starts_with(&left.out) && left.out.len() <= 100);
+    assert!(rt; left.err.is_empty());
     Ok(())
 }

@@ -37,13 +37,8 @@ fn airs(alloc: Global, noises: &[u32]) -> Result<Vec<u8>, AllocError> {
     Ok(air)
 }
 
-/// The noises of airs one after another, how many bytes of them are heard at most, the words, and the lines that are printed.
-type Row = (
-    &'static [u32],
-    usize,
-    &'static [&'static str],
-    &'static [u8],
-);
+/// The noises of airs one after another, the words, and the lines that are printed.
+type Row = (&'static [u32], &'static [&'static str], &'static [u8]);
 
 const ONCE: &[u8] = b"01 0000008 A ABC\n";
 
@@ -51,32 +46,24 @@ const TWICE: &[u8] = b"01 0000008 A ABC\n01 0000008 A ABC\n";
 
 const PLAY: &[&str] = &["play", "air.bin", "8"];
 
-const HEARD: [Row; 12] = [
-    (&[0], 140, PLAY, ONCE),
-    (&[0], 140, &["play", "air.bin", "9"], b""),
-    (&[0], 140, &["play", "air.bin", "8", "16"], ONCE),
-    (&[0], 140, &["play", "air.bin", "9", "16"], b""),
-    (&[0, 0], 280, PLAY, TWICE),
+const HEARD: [Row; 6] = [
+    (&[0], &["play", "air.bin", "9"], b""),
+    (&[0], &["play", "air.bin", "8", "16"], ONCE),
+    (&[0], &["play", "air.bin", "9", "16"], b""),
+    (&[0, 0], PLAY, TWICE),
     (
         &[0, 0x8000_0001],
-        280,
         &["play", "air.bin", "0000008", "16"],
         TWICE,
     ),
-    (&[0x8000_0001, 0x8000_0001], 280, PLAY, TWICE),
-    (&[0], 92, PLAY, ONCE),
-    (&[0], 91, PLAY, b""),
-    (&[0], 72, PLAY, b""),
-    (&[0], 3, PLAY, b""),
-    (&[], 0, PLAY, b""),
+    (&[0x8000_0001, 0x8000_0001], PLAY, TWICE),
 ];
 
-/// The second preamble stands at a sync place, where the lock is lost. A page is whole once the word behind it is whole.
+/// The second preamble stands at a sync place, where the lock is lost.
 #[test]
 fn receivers_print_their_pages(rt: HostRuntime) -> Result<(), Fail> {
-    for (noises, size, words, lines) in &HEARD {
-        let mut air = airs(rt.alloc(), *noises)?;
-        air.truncate(*size);
+    for (noises, words, lines) in &HEARD {
+        let air = airs(rt.alloc(), *noises)?;
         let left = heard(rt.alloc(), *words, &air, &[])?;
         assert_eq!(rt; left.status, Status::Done);
         assert_eq!(rt; left.out.as_slice(), *lines);
@@ -85,8 +72,70 @@ fn receivers_print_their_pages(rt: HostRuntime) -> Result<(), Fail> {
     Ok(())
 }
 
+/// So many bytes of a transmission have its page and the word behind it whole: the preamble and five words.
+const WHOLE_PAGE: usize = 92;
+
+#[test]
+fn a_page_is_printed_once_the_word_behind_it_is_whole(rt: HostRuntime) -> Result<(), Fail> {
+    let mut air = airs(rt.alloc(), &[0])?;
+    for size in (0..=air.len()).rev() {
+        air.truncate(size);
+        let left = heard(rt.alloc(), PLAY, &air, &[])?;
+        let lines = if size < WHOLE_PAGE { b"" } else { ONCE };
+        assert_eq!(rt; left.status, Status::Done, "{size} bytes");
+        assert_eq!(rt; left.out.as_slice(), lines, "{size} bytes");
+        assert!(rt; left.err.is_empty(), "{size} bytes");
+    }
+    Ok(())
+}
+
+/// The read that fails, its number, and what is printed of the bits before it.
+const UNREAD: [(&str, u64, &[u8]); 2] = [
+    ("the first read", 1, b""),
+    ("the read at the end of the file", 2, ONCE),
+];
+
+#[test]
+fn a_file_that_fails_is_played_until_then(rt: HostRuntime) -> Result<(), Fail> {
+    let air = airs(rt.alloc(), &[0])?;
+    for (read, number, lines) in &UNREAD {
+        let left = heard(rt.alloc(), PLAY, &air, &[(Object::Shelf, *number)])?;
+        assert!(rt; left.failed, "{read}");
+        assert_eq!(rt; left.status, Status::FileFault, "{read}");
+        assert_eq!(rt; left.out.as_slice(), *lines, "{read}");
+        assert_eq!(rt; left.err.as_slice(), b"pocsag: file\n".as_slice(), "{read}");
+    }
+    Ok(())
+}
+
+/// How many groups of zeros a page to capcode 8 has, and what is printed of it: no more than 140 are a page's.
+const GROUPS: [(usize, &[u8]); 2] = [(140, b"01 0000008 A \n"), (141, b"")];
+
+/// Appends nine batches with a page of so many groups of zeros.
+fn push_zeros(alloc: Global, air: &mut Vec<u8>, groups: usize) -> Result<(), AllocError> {
+    let mut slots = Vec::new(alloc);
+    slots.push((0usize, 0x0000_3B49u32))?;
+    for slot in 1..=groups {
+        slots.push((slot, 0x8000_0769))?;
+    }
+    push_air(air, 9, &slots, 0)
+}
+
+#[test]
+fn a_page_of_141_groups_is_not_printed(rt: HostRuntime) -> Result<(), Fail> {
+    for (groups, lines) in &GROUPS {
+        let mut air = Vec::new(rt.alloc());
+        push_zeros(rt.alloc(), &mut air, *groups)?;
+        let left = heard(rt.alloc(), PLAY, &air, &[])?;
+        assert_eq!(rt; left.status, Status::Done, "{groups} groups");
+        assert_eq!(rt; left.out.as_slice(), *lines, "{groups} groups");
+        assert!(rt; left.err.is_empty(), "{groups} groups");
+    }
+    Ok(())
+}
+
 /// The table of a transmission of `ABC` to capcode 8.
-const ABC_TABLE: &[u8] =
+pub(crate) const ABC_TABLE: &[u8] =
     b"batch 1\n00 address 0000008 A\n01 message 82870\n02 message 80000\n03 idle\n04 idle\n05 idle\n06 idle\n07 idle\n08 idle\n09 idle\n10 idle\n11 idle\n12 idle\n13 idle\n14 idle\n15 idle\n";
 
 #[test]
@@ -114,6 +163,22 @@ fn the_table_counts_batches_over_all_locks(rt: HostRuntime) -> Result<(), Fail> 
     let left = heard(rt.alloc(), &["show", "air.bin"], &air, &[])?;
     assert_eq!(rt; left.status, Status::Done);
     assert_eq!(rt; left.out.as_slice(), CUT_TABLE);
+    Ok(())
+}
+
+/// The table of 18 sync words. Those in slots are addresses, of which each frame has one.
+const SYNC_TABLE: &[u8] =
+    b"batch 1\n00 address 2045056 2\n01 address 2045056 2\n02 address 2045057 2\n03 address 2045057 2\n04 address 2045058 2\n05 address 2045058 2\n06 address 2045059 2\n07 address 2045059 2\n08 address 2045060 2\n09 address 2045060 2\n10 address 2045061 2\n11 address 2045061 2\n12 address 2045062 2\n13 address 2045062 2\n14 address 2045063 2\n15 address 2045063 2\nbatch 2\n";
+
+#[test]
+fn sync_words_in_slots_are_addresses(rt: HostRuntime) -> Result<(), Fail> {
+    let mut air = Vec::new(rt.alloc());
+    push_preamble(&mut air)?;
+    push_words(&mut air, &[0x7CD2_15D8; 18], 0)?;
+    let left = heard(rt.alloc(), &["show", "air.bin"], &air, &[])?;
+    assert_eq!(rt; left.status, Status::Done);
+    assert_eq!(rt; left.out.as_slice(), SYNC_TABLE);
+    assert!(rt; left.err.is_empty());
     Ok(())
 }
 

@@ -17,6 +17,9 @@ use wires::wire::Wire;
 /// How many bytes can be said, written, or appended to a file.
 const ROOM: usize = 2400;
 
+/// The file that a station makes fresh.
+const AIR: &str = "air.bin";
+
 /// An object that a run is handed.
 #[derive(Clone, Copy, PartialEq, Eq)]
 pub(crate) enum Object {
@@ -51,6 +54,12 @@ pub(crate) struct Left {
     pub(crate) err: Vec<u8>,
     /// The file `air.bin`.
     pub(crate) air: Option<Vec<u8>>,
+    /// Whether it is as it was.
+    pub(crate) air_stands: bool,
+    /// Whether every other file is as it was.
+    pub(crate) others_stand: bool,
+    /// Whether the run made all the calls that were to fail.
+    pub(crate) failed: bool,
 }
 
 /// These words, each as a text of its own.
@@ -146,18 +155,95 @@ fn input_of(alloc: Global, objects: Objects<'_>) -> Result<MemorySource, Fail> {
     Ok(MemorySource::new(alloc, objects.input, objects.cut.max(1), &calls)?)
 }
 
-/// The output or the error stream of a run.
-fn sink_of(alloc: Global, object: Object, objects: Objects<'_>) -> Result<MemorySink, Fail> {
+/// The output or the error stream of a run, with room for so many bytes.
+fn sink_of(
+    alloc: Global,
+    object: Object,
+    objects: Objects<'_>,
+    room: usize,
+) -> Result<MemorySink, Fail> {
     let calls = calls_of(alloc, object, objects.faults)?;
-    Ok(MemorySink::new(alloc, ROOM, &calls)?)
+    Ok(MemorySink::new(alloc, room, &calls)?)
 }
 
 /// The bytes of the file `air.bin`.
 fn air_in(alloc: Global, shelf: &MemoryShelf) -> Result<Option<Vec<u8>>, AllocError> {
-    match shelf.bytes("air.bin") {
+    match shelf.bytes(AIR) {
         Some(bytes) => Ok(Some(Vec::from_slice(alloc, bytes)?)),
         None => Ok(None),
     }
+}
+
+/// Whether `air.bin` is as it was: it holds what it held, or isn't there.
+fn air_stands(shelf: &MemoryShelf, files: &[(String, Vec<u8>)]) -> bool {
+    for (name, bytes) in files {
+        if name.as_str() == AIR {
+            return shelf.bytes(AIR) == Some(bytes.as_slice());
+        }
+    }
+    shelf.bytes(AIR).is_none()
+}
+
+/// Whether all files but `air.bin` hold what they held.
+fn others_stand(shelf: &MemoryShelf, files: &[(String, Vec<u8>)]) -> bool {
+    for (name, bytes) in files {
+        let name = name.as_str();
+        if name != AIR && shelf.bytes(name) != Some(bytes.as_slice()) {
+            return false;
+        }
+    }
+    true
+}
+
+/// The number of the last call of an object that is to fail, or 0.
+fn last_call(object: Object, faults: &[(Object, u64)]) -> u64 {
+    let mut last = 0;
+    for (failing, call) in faults {
+        if *failing == object {
+            last = last.max(*call);
+        }
+    }
+    last
+}
+
+/// Whether the wire was called so often. If not, one of as many further calls is the one that is to fail.
+fn was_wire_called(wire: &mut MemoryWire, last: u64) -> bool {
+    for _ in 0..last {
+        if wire.listen("").is_err() {
+            return false;
+        }
+    }
+    true
+}
+
+/// The same of the shelf. A file that is there or was made fresh can be made fresh again.
+fn was_shelf_called(shelf: &mut MemoryShelf, last: u64) -> bool {
+    for _ in 0..last {
+        if shelf.fresh(AIR).is_err() {
+            return false;
+        }
+    }
+    true
+}
+
+/// The same of the input.
+fn was_source_called(source: &mut MemorySource, last: u64) -> bool {
+    for _ in 0..last {
+        if source.take(&mut [0]).is_err() {
+            return false;
+        }
+    }
+    true
+}
+
+/// The same of the output or the error stream.
+fn was_sink_called(sink: &mut MemorySink, last: u64) -> bool {
+    for _ in 0..last {
+        if sink.put(b"").is_err() {
+            return false;
+        }
+    }
+    true
 }
 
 /// What the objects hold after a run.
@@ -168,6 +254,7 @@ fn left_by(
     shelf: &MemoryShelf,
     out: &MemorySink,
     err: &MemorySink,
+    files: &[(String, Vec<u8>)],
 ) -> Result<Left, Fail>
     requires { 0 < (wire_tells wire.now).count }
 {
@@ -178,19 +265,38 @@ fn left_by(
         out: Vec::from_slice(alloc, out.bytes())?,
         err: Vec::from_slice(alloc, err.bytes())?,
         air: air_in(alloc, shelf)?,
+        air_stands: air_stands(shelf, files),
+        others_stand: others_stand(shelf, files),
+        failed: false,
     })
 }
 
 /// Runs the program with these words over these objects.
 pub(crate) fn run_over(alloc: Global, words: &[&str], objects: Objects<'_>) -> Result<Left, Fail> {
+    run_into(alloc, words, objects, ROOM)
+}
+
+/// Runs the program with these words over these objects and an output with room for so many bytes.
+pub(crate) fn run_into(
+    alloc: Global,
+    words: &[&str],
+    objects: Objects<'_>,
+    room: usize,
+) -> Result<Left, Fail> {
     let words = texts(alloc, words)?;
     let mut wire = wire_of(alloc, objects)?;
     let mut shelf = shelf_of(alloc, objects)?;
     let mut input = input_of(alloc, objects)?;
-    let mut out = sink_of(alloc, Object::Output, objects)?;
-    let mut err = sink_of(alloc, Object::Errors, objects)?;
+    let mut out = sink_of(alloc, Object::Output, objects, room)?;
+    let mut err = sink_of(alloc, Object::Errors, objects, ROOM)?;
     let status = ran(
         alloc, &words, &mut wire, &mut shelf, &mut input, &mut out, &mut err,
     );
-    left_by(alloc, status, &wire, &shelf, &out, &err)
+    let mut left = left_by(alloc, status, &wire, &shelf, &out, &err, objects.files)?;
+    left.failed = was_wire_called(&mut wire, last_call(Object::Wire, objects.faults))
+        && was_shelf_called(&mut shelf, last_call(Object::Shelf, objects.faults))
+        && was_source_called(&mut input, last_call(Object::Input, objects.faults))
+        && was_sink_called(&mut out, last_call(Object::Output, objects.faults))
+        && was_sink_called(&mut err, last_call(Object::Errors, objects.faults));
+    Ok(left)
 }
