@@ -1,8 +1,7 @@
 -- What is printed of a front of bits is a front of what is printed of all.
-use Rattle.std.proofs.Common.{◌≡◌, ℕ, ◌+◌, Bool, List, ◌++◌, ◌∙◌, ap}
+use Rattle.std.proofs.Common.{ℕ, ◌+◌, Bool, List, ◌∙◌, ap}
 use Rattle.std.specs.Prelude.{map}
 use Rattle.std.proofs.lemmas.Grind.{flat_map-append}
-use Rattle.page_text.specs.Page.{Page}
 use Rattle.wires.specs.Fronts.{Grows}
 use Rattle.receiver.specs.Heard.{heard, with_text}
 use Rattle.receiver.specs.Listeners.{Listener, is_one_of}

@@ -1,19 +1,15 @@
 -- What `trial` comes to where no call fails.
-use Rattle.std.proofs.Common.{◌≡◌, ◌≢◌, ℕ, ◌+◌, ◌≤◌, ◌⊎◌, inl, inr, Bool, List, ◌++◌, append_assoc, drop, length, length-append, Ok, Err, IsTrue, refl, sym, ◌∙◌, ap, ap₂, subst, arith}
-use Rattle.std.specs.Prelude.{codes}
-use Rattle.std.proofs.lemmas.Grind.{flat_map-append}
-use Rattle.std.proofs.lemmas.List.{map-append}
+use Rattle.std.proofs.Common.{◌≡◌, ◌≢◌, ℕ, ◌≤◌, ◌⊎◌, inl, inr, Bool, List, ◌++◌, length, Ok, Err, IsTrue, refl, sym, ◌∙◌, ap, ap₂, subst}
 use Rattle.air.specs.Air.{IsAir}
 use Rattle.bits.specs.Bits.{bytes_bits}
 use Rattle.subscribers.specs.Parts.{Parts}
 use Rattle.subscribers.specs.Settings.{settings_of}
 use Rattle.subscribers.specs.declared.faults.SettingsFault.{SettingsFault}
-use Rattle.tap_block.specs.Chars.{char_of, characters}
+use Rattle.tap_block.specs.Chars.{characters}
 use Rattle.subscribers.specs.Directory.{directory_of}
-use Rattle.tap_terminal.specs.Session.{IsSession, Session}
-use Rattle.tap_terminal.proofs.Fronts.{fronts, session_exists}
+use Rattle.tap_terminal.specs.Session.{Session}
+use Rattle.tap_terminal.proofs.Fronts.{session_exists}
 use Rattle.tap_terminal.proofs.Sessions.{one_session}
-use Rattle.wires.proofs.Noise.{noisy_bits-append}
 use Rattle.wires.proofs.Written.{and_one, still}
 use Rattle.wires.specs.Files.{Files, all_files}
 use Rattle.wires.specs.Held.{OtherFiles}
@@ -24,7 +20,6 @@ use Rattle.station.specs.declared.outcomes.Outcome.{Outcome}
 use Rattle.station.specs.declared.outcomes.Outcome.TheVariants.{Ended, Misread, Refused}
 use Rattle.station.specs.declared.statuses.Status.{Status}
 use Rattle.station.specs.declared.statuses.Status.TheVariants.{Done, FileFault, InputFault, Memory, OutFault}
-use Rattle.station.specs.Answers.{answer_line, answer_lines}
 use Rattle.station.specs.OneTrial.{FitTrial, OneTrial}
 use Rattle.station.specs.PageLines.{play_lines}
 use Rattle.station.specs.Rows.{Streams}

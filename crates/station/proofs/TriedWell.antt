@@ -1,5 +1,5 @@
 -- Over an output with room for all lines of a trial, no write of it fails.
-use Rattle.std.proofs.Common.{◌≡◌, ℕ, ◌+◌, ◌≤◌, inl, inr, Bool, List, ◌++◌, length, length-append, IsTrue, ◌∙◌, ap, ap₂, subst, arith}
+use Rattle.std.proofs.Common.{◌≡◌, ℕ, ◌≤◌, inl, inr, Bool, List, ◌++◌, length, length-append, IsTrue, ap, ap₂, subst, arith}
 use Rattle.std.specs.Prelude.{codes}
 use Rattle.air.specs.Air.{IsAir}
 use Rattle.subscribers.specs.Directory.{directory_of}
