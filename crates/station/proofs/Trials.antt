@@ -23,7 +23,7 @@ use Rattle.station.specs.Answering.{AnsweredInput, LeavesSession}
 use Rattle.station.specs.Answers.{answer_lines}
 use Rattle.station.specs.Leaves.{HasTried, HearingLeaves, LeavesAccepted, WasLast}
 use Rattle.station.specs.Noise.{ListensThrough}
-use Rattle.station.specs.Trying.{HearsPages, TriedFront, TriedSession, Tries}
+use Rattle.station.specs.Trying.{HearsPages, TriedFront, TriedSession}
 use Rattle.station.specs.Wrote.{Wrote, WroteFront}
 use Rattle.station.proofs.Listens.{Puts-from_wrote, Wrote-then, WroteFront-then}
 use Rattle.station.proofs.NoisyHeard.{through_all, through_begins}
@@ -131,36 +131,45 @@ tries_heard settings spare printed i0 i before after new desk n0 n o0 o1 o2 o3 p
     last = was_last settings spare h.session before after desk h.leaves
 
     by_status : (s : Status) → ListensThrough printed q.air n0 n o2 o3 s → HearingLeaves after new s → HasTried settings spare printed i0 i n0 n o0 o3 new desk s
-    by_status Done p l = record { leaves = record { no_page = l.all refl; last = last }; tries = record {
-      tried = tried settings spare i0 i before after desk o0 o1 q.air h none q.is_air;
-      flips = p.noise;
-      took_flips = p.took;
-      of_noise = p.of_all;
-      there = p.there;
-      wrote = wrote_more o0 o2 o3 (answer_lines h.session.answers ++ codes "---\n") (printed (noisy_bits q.air p.noise)) between p.wrote;
-    } }
-    by_status FileFault p l = record { leaves = last; tries = record {
-      tried = tried settings spare i0 i before after desk o0 o1 q.air h none q.is_air;
-      heard = p.heard;
-      rest = p.rest;
-      air_is = p.bits_are;
-      flips = p.noise;
-      failed = p.failed;
-      of_noise = p.of_noise;
-      there = p.there;
-      wrote = wrote_more o0 o2 o3 (answer_lines h.session.answers ++ codes "---\n") (printed (noisy_bits p.heard p.noise)) between p.wrote;
-    } }
-    by_status OutFault p l = record { leaves = last; tries = inr (record {
-      tried = tried settings spare i0 i before after desk o0 o1 q.air h none q.is_air;
-      heard = p.heard;
-      rest = p.rest;
-      air_is = p.bits_are;
-      flips = p.noise;
-      took_flips = p.took;
-      of_noise = p.of_noise;
-      there = p.there;
-      wrote = front_more o0 o2 o3 (answer_lines h.session.answers ++ codes "---\n") (printed (noisy_bits p.heard p.noise)) between p.wrote;
-    }) }
+    by_status Done p l = record {
+      leaves = record { no_page = l.all refl; last = last };
+      tries = record {
+        tried = tried settings spare i0 i before after desk o0 o1 q.air h none q.is_air;
+        flips = p.noise;
+        took_flips = p.took;
+        of_noise = p.of_all;
+        there = p.there;
+        wrote = wrote_more o0 o2 o3 (answer_lines h.session.answers ++ codes "---\n") (printed (noisy_bits q.air p.noise)) between p.wrote;
+      };
+    }
+    by_status FileFault p l = record {
+      leaves = last;
+      tries = record {
+        tried = tried settings spare i0 i before after desk o0 o1 q.air h none q.is_air;
+        heard = p.heard;
+        rest = p.rest;
+        air_is = p.bits_are;
+        flips = p.noise;
+        failed = p.failed;
+        of_noise = p.of_noise;
+        there = p.there;
+        wrote = wrote_more o0 o2 o3 (answer_lines h.session.answers ++ codes "---\n") (printed (noisy_bits p.heard p.noise)) between p.wrote;
+      };
+    }
+    by_status OutFault p l = record {
+      leaves = last;
+      tries = inr (record {
+        tried = tried settings spare i0 i before after desk o0 o1 q.air h none q.is_air;
+        heard = p.heard;
+        rest = p.rest;
+        air_is = p.bits_are;
+        flips = p.noise;
+        took_flips = p.took;
+        of_noise = p.of_noise;
+        there = p.there;
+        wrote = front_more o0 o2 o3 (answer_lines h.session.answers ++ codes "---\n") (printed (noisy_bits p.heard p.noise)) between p.wrote;
+      });
+    }
     by_status Usage p l = elim p [ ]
     by_status Settings p l = elim p [ ]
     by_status WireFault p l = elim p [ ]

@@ -8,7 +8,6 @@ use Rattle.station.specs.PageLines.{group_lines}
 use Rattle.station.specs.Trying.{HearsPages}
 use Rattle.station.specs.declared.statuses.Status.TheVariants.{InputFault, OutFault}
 use Rattle.station.proofs.PlayedPages.{group_lines-none}
-use Rattle.station.proofs.Servings.{all_spare}
 use Rattle.station.proofs.Trials.{leaves_accepted, live_none, tries_between, tries_heard, was_last}
 use Rattle.station.proofs.session.Station.trial.Goals as goal
 
