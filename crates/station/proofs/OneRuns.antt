@@ -1,5 +1,5 @@
 -- What a run comes to where no call fails.
-use Rattle.std.proofs.Common.{◌≡◌, ◌≢◌, ℕ, ◌≤◌, List, [], ◌++◌, append-nil, length, Option, Some, None, IsTrue, refl, sym, ◌∙◌, ap, subst}
+use Rattle.std.proofs.Common.{◌≡◌, ◌≢◌, ℕ, ◌≤◌, List, [], ◌++◌, append-nil, length, Option, Some, None, refl, sym, ◌∙◌, ap, subst}
 use Rattle.subscribers.specs.declared.faults.SettingsFault.{SettingsFault}
 use Rattle.tap_entry.specs.declared.faults.PagesFault.{PagesFault}
 use Rattle.wires.specs.Written.{Written}
@@ -14,6 +14,7 @@ use Rattle.station.specs.Rows.{Acts, Came, Objects}
 use Rattle.station.specs.Statuses.{line_of}
 use Rattle.station.specs.OneOutcome.{LeftAlike}
 use Rattle.station.proofs.LeftAlike.{kept_alike}
+use Rattle.station.specs.Wrote.{FitFor}
 use Rattle.station.proofs.OneCommands.{one_command}
 use Rattle.station.proofs.OneOfOne.{one_one}
 use Rattle.station.proofs.OneOutcomes.{one_play, one_show}
@@ -22,12 +23,6 @@ use Rattle.station.proofs.OneStations.{one_station}
 use Rattle.station.proofs.OneTrials.{one_trial}
 
 -- ---- the line about an outcome
-
--- the sink is steady and has room for this
-pub record Fit (err : Written ℕ) (line : List ℕ) : Type 0 where
-  pub tells : IsTrue err.tells
-  pub steady : IsTrue err.steady
-  pub room : length line ≤ err.room
 
 -- the status that a run ends with
 abbrev result_of : Outcome → Status
@@ -38,7 +33,7 @@ result_of (Misread fault) = BadPages
 nothing_put : (old new : Written ℕ) → new ≡ old → new.held ≡ old.held ++ []
 nothing_put old new e = ap (λ (w : Written ℕ). w.held) e ∙ sym (append-nil old.held)
 
-tells_fit : (status : Status) (old new : Written ℕ) (result : Status) → Fit old (line_of status) → Tells status old new result → (result ≡ status) × (new.held ≡ old.held ++ line_of status)
+tells_fit : (status : Status) (old new : Written ℕ) (result : Status) → FitFor old (line_of status) → Tells status old new result → (result ≡ status) × (new.held ≡ old.held ++ line_of status)
 tells_fit Done old new result fit h = (h.0, nothing_put old new h.1)
 tells_fit OutFault old new result fit h = (h.0, nothing_put old new h.1)
 tells_fit Settings old new result fit h = (h.0, nothing_put old new h.1)
@@ -46,16 +41,16 @@ tells_fit BadPages old new result fit h = (h.0, nothing_put old new h.1)
 tells_fit status old new OutFault fit h = absurd (h.unfit fit.tells fit.steady fit.room)
 tells_fit status old new result fit h = (h.0, h.1.held fit.tells)
 
-refusal_fit : (old new : Written ℕ) (line : List ℕ) (fault : SettingsFault) (result : Status) → line ≡ settings_line fault → Fit old line → TellsRefusal fault old new result → (result ≡ Settings) × (new.held ≡ old.held ++ settings_line fault)
+refusal_fit : (old new : Written ℕ) (line : List ℕ) (fault : SettingsFault) (result : Status) → line ≡ settings_line fault → FitFor old line → TellsRefusal fault old new result → (result ≡ Settings) × (new.held ≡ old.held ++ settings_line fault)
 refusal_fit old new line fault OutFault e fit h = absurd (h.unfit fit.tells fit.steady (subst (λ (l : List ℕ). length l ≤ old.room) e fit.room))
 refusal_fit old new line fault result e fit h = (h.0, h.1.held fit.tells)
 
-misread_fit : (old new : Written ℕ) (line : List ℕ) (fault : PagesFault) (result : Status) → line ≡ pages_line fault → Fit old line → TellsMisread fault old new result → (result ≡ BadPages) × (new.held ≡ old.held ++ pages_line fault)
+misread_fit : (old new : Written ℕ) (line : List ℕ) (fault : PagesFault) (result : Status) → line ≡ pages_line fault → FitFor old line → TellsMisread fault old new result → (result ≡ BadPages) × (new.held ≡ old.held ++ pages_line fault)
 misread_fit old new line fault OutFault e fit h = absurd (h.unfit fit.tells fit.steady (subst (λ (l : List ℕ). length l ≤ old.room) e fit.room))
 misread_fit old new line fault result e fit h = (h.0, h.1.held fit.tells)
 
 -- over a fit output the line is put
-told_fit : (outcome : Outcome) (old new : Written ℕ) (result : Status) → Fit old (line_about outcome) → TellsOutcome outcome old new result → (result ≡ result_of outcome) × (new.held ≡ old.held ++ line_about outcome)
+told_fit : (outcome : Outcome) (old new : Written ℕ) (result : Status) → FitFor old (line_about outcome) → TellsOutcome outcome old new result → (result ≡ result_of outcome) × (new.held ≡ old.held ++ line_about outcome)
 told_fit (Ended status) old new result fit h = tells_fit status old new result fit h
 told_fit (Refused fault) old new result fit h = refusal_fit old new (settings_line fault) fault result refl fit h
 told_fit (Misread fault) old new result fit h = misread_fit old new (pages_line fault) fault result refl fit h
