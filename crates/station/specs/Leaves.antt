@@ -1,6 +1,6 @@
 -- What serving and a trial leave of a station: the pages that wait in its pool, and the session whose report its terminal holds. The cells
 -- of the pool are always those of the settings.
-use Rattle.std.specs.Prelude.{◌≡◌, ℕ, ◌+◌, Bool, List, [], ◌∷◌, ◌++◌, length, Option, Some, None}
+use Rattle.std.specs.Prelude.{◌≡◌, ℕ, Bool, List, [], ◌∷◌, ◌++◌, length, Option, Some, None}
 use mathlib.Core.Logic.{inl, inr}
 use Rattle.page_pool.specs.Pool.{Pool, cells, pages}
 use Rattle.subscribers.specs.Parts.{Parts}
