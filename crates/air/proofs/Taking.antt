@@ -1,5 +1,5 @@
 -- Slots taken one at a time from those that are left.
-use Rattle.std.proofs.Common.{◌≡◌, ◌≢◌, ℕ, zero, suc, ◌+◌, ◌≤◌, ◌<◌, List, [], ◌∷◌, ◌++◌, length, map, take, drop, refl, sym, ◌∙◌, ap, arith, add-one, append_assoc, length-drop}
+use Rattle.std.proofs.Common.{◌≡◌, ◌≢◌, ℕ, zero, suc, ◌+◌, ◌≤◌, ◌<◌, List, [], ◌∷◌, ◌++◌, length, map, take, drop, sym, ◌∙◌, ap, arith, add-one, append_assoc, length-drop}
 use Rattle.std.proofs.lemmas.List.{map-append}
 use Rattle.codeword.specs.declared.words.TheConstants.{SYNC}
 use Rattle.page_pool.specs.Pool.{Pool}

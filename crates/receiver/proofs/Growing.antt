@@ -1,11 +1,11 @@
 -- What is heard of a front of bits is a front of what is heard of all.
-use Rattle.std.proofs.Common.{◌≡◌, ℕ, zero, suc, ◌≤◌, ◌⊎◌, inl, inr, Bool, true, false, List, [], ◌∷◌, ◌++◌, append-nil, append_assoc, length, flat_map, Option, Some, None, refl, sym, ◌∙◌, ap, ap₂, subst, arith}
+use Rattle.std.proofs.Common.{◌≡◌, ℕ, zero, suc, ◌≤◌, ◌⊎◌, inl, inr, Bool, true, false, List, [], ◌∷◌, ◌++◌, append-nil, length, flat_map, Option, Some, None, refl, sym, ◌∙◌, ap, ap₂, subst, arith}
 use Rattle.std.specs.Prelude.{map}
 use Rattle.std.proofs.lemmas.Grind.{flat_map-append}
 use Rattle.std.proofs.lemmas.List.{map-append}
 use Rattle.page_text.specs.Page.{Page}
 use Rattle.wires.specs.Fronts.{Grows, IsFront}
-use Rattle.wires.proofs.Fronts.{front_append, front_behind, front_same, front_then, grows_by_one, splice}
+use Rattle.wires.proofs.Fronts.{front_append, front_behind, front_then, grows_by_one}
 use Rattle.receiver.specs.Growing.{EntriesGrow, PagesGrow, ShownGrow}
 use Rattle.receiver.specs.Heard.{HeardPage, heard, pages_from, stretch_pages, with_text}
 use Rattle.receiver.specs.Shown.{shown, shown_page}

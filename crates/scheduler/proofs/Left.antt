@@ -1,5 +1,5 @@
 -- What stays of a pool while pages are taken out of it.
-use Rattle.std.proofs.Common.{◌≡◌, ℕ, List, [], ◌∷◌, ◌++◌, refl, sym, ◌∙◌, ap, subst, arith, inl, inr}
+use Rattle.std.proofs.Common.{ℕ, List, [], ◌∷◌, ◌++◌, refl, sym, ◌∙◌, ap, subst, arith, inl, inr}
 use Rattle.page_pool.specs.Pool.{Live, Pool, Takes, in_use}
 use Rattle.page_pool.proofs.Lists.{in_use-append}
 use Rattle.scheduler.specs.Sendings.{AreLeft, Keeps}

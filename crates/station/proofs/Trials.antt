@@ -32,7 +32,7 @@ use Rattle.station.specs.Answers.{answer_line, answer_lines}
 use Rattle.station.specs.Leaves.{HasTried, HearingLeaves, LeavesAccepted, WasLast}
 use Rattle.station.specs.Noise.{ListensThrough}
 use Rattle.station.specs.Sessions.{SessionOf}
-use Rattle.station.specs.Trying.{HearsPages, TriedAnswers, TriedFront, TriedInput, TriedSession, Tries, trial_lines}
+use Rattle.station.specs.Trying.{HearsPages, TriedAnswers, TriedFront, TriedInput, TriedSession, trial_lines}
 use Rattle.station.specs.Wrote.{Wrote, WroteFront}
 use Rattle.station.proofs.Listens.{Puts-from_wrote, Wrote-then, WroteFront-longer, WroteFront-then}
 use Rattle.station.proofs.NoisyHeard.{through_all, through_begins}

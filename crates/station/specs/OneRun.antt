@@ -1,7 +1,5 @@
 -- Two runs of the same words over the same objects, where no call fails, come to the same.
 use Rattle.std.specs.Prelude.{◌≡◌, ◌≢◌, ℕ, ◌≤◌, List, length, Option, Some, None, IsTrue}
-use Rattle.bits.specs.Bits.{bytes_bits}
-use Rattle.wires.specs.Stacked.{are_bytes}
 use Rattle.station.specs.declared.outcomes.Outcome.{Outcome}
 use Rattle.station.specs.declared.statuses.Status.{Status}
 use Rattle.station.specs.declared.statuses.Status.TheVariants.{Memory}
