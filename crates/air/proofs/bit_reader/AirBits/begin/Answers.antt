@@ -1,5 +1,6 @@
 use Rattle.std.proofs.Common.{sym, ◌∙◌}
 use Rattle.air.proofs.Bits.{bits-begun, bits-none, no_bit}
+use Rattle.air.proofs.Taking.{Keeps-same}
 use Rattle.air.proofs.bit_reader.AirBits.begin.Goals as goal
 
 pub returns-in_default-clause-same : goal.returns-in_default-clause-same
@@ -22,3 +23,6 @@ returns-clause-same g c =
 
 pub invariant_of-self-clause-empties : goal.invariant_of-self-clause-empties
 invariant_of-self-clause-empties g c = no_bit _ _ _ _ c.next.new.self.follows
+
+pub returns-then-self-ne0-clause-keeps : goal.returns-then-self-ne0-clause-keeps
+returns-then-self-ne0-clause-keeps g c = Keeps-same _
