@@ -1,5 +1,5 @@
 -- What `station` comes to where no call fails.
-use Rattle.std.proofs.Common.{◌≡◌, ◌≢◌, ℕ, ◌*◌, ◌≤◌, ◌⊎◌, inl, inr, Bool, true, false, List, length, Ok, Err, IsTrue, refl, sym, ◌∙◌, ap, subst}
+use Rattle.std.proofs.Common.{◌≡◌, ◌≢◌, ℕ, ◌*◌, ◌≤◌, ◌⊎◌, inl, inr, Bool, true, false, List, length, Ok, Err, IsTrue, refl, sym, ◌∙◌, ap, subst, arith}
 use Rattle.subscribers.specs.Parts.{Parts}
 use Rattle.subscribers.specs.Settings.{settings_of}
 use Rattle.subscribers.specs.declared.faults.SettingsFault.{SettingsFault}
@@ -41,7 +41,9 @@ fit_after settings spare most wire old now name file t s there h fit =
 serves : (settings : Parts) (spare most : ℕ) (old new : Around) (address name : List ℕ) (status : Status) → FitWire settings spare old.wire most → FitShelf settings spare old.wire old.shelf name most → FitOut old.out most
     → HasServed settings spare old new address name most status → (status ≡ Done) × AtDone settings spare old new address name most
 serves settings spare most old new address name Done wire shelf out h = (refl, h)
-serves settings spare most old new address name WireFault wire shelf out h = absurd (h.unfit wire.tells wire.steady (next_fit old.wire new.wire most h.sessions h.few wire h.wire))
+serves settings spare most old new address name WireFault wire shelf out h =
+    let few : length h.sessions ≤ most = elim h.few [ inl fewer ↦ omega (arith, fewer) | inr none ↦ omega (arith, ap length none) ] in
+    absurd (h.unfit wire.tells wire.steady (next_fit old.wire new.wire most h.sessions few wire h.wire))
 serves settings spare most old new address name FileFault wire shelf out (inl h) = absurd (h.unfit shelf)
 serves settings spare most old new address name FileFault wire shelf out (inr h) = absurd (h.unfit shelf)
 serves settings spare most old new address name OutFault wire shelf out h = absurd (h.unfit out)

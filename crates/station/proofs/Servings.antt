@@ -1,5 +1,5 @@
 -- Serving goes on by one session, or ends.
-use Rattle.std.proofs.Common.{◌≡◌, ℕ, ◌+◌, ◌*◌, ◌≤◌, inl, inr, Bool, true, false, List, [], ◌∷◌, ◌++◌, append-nil, append_assoc, length, length-append, take, drop, Result, Ok, Err, IsTrue, IsFalse, refl, sym, ◌∙◌, ap, subst, arith}
+use Rattle.std.proofs.Common.{◌≡◌, ℕ, ◌+◌, ◌*◌, ◌<◌, ◌≤◌, inl, inr, Bool, true, false, List, [], ◌∷◌, ◌++◌, append-nil, append_assoc, length, length-append, take, drop, Result, Ok, Err, IsTrue, IsFalse, refl, sym, ◌∙◌, ap, subst, arith}
 use Rattle.std.proofs.lemmas.List.{take-append-drop}
 use Rattle.air.specs.Air.{IsAir}
 use Rattle.bits.specs.Bits.{bytes_bits}
@@ -94,10 +94,10 @@ at_done settings spare most first w mid f o address name pool ss so few h = reco
 
 -- `next` failed
 abbrev pub at_wire_fault : {E : Type 0} (settings : Parts) (spare most : ℕ) (first : Around) (w mid : Line) (f : Files) (o : Written ℕ) (address name : List ℕ) (pool : Pool) (e : E) (ss : List (Served settings spare))
-    → SoFar first (record { wire = w; shelf = f; out = o }) address name most pool ss → length ss ≤ most → Opens w mid (Err e) → AtWireFault settings spare first (record { wire = mid; shelf = f; out = o }) address name most
+    → SoFar first (record { wire = w; shelf = f; out = o }) address name most pool ss → length ss < most → Opens w mid (Err e) → AtWireFault settings spare first (record { wire = mid; shelf = f; out = o }) address name most
 at_wire_fault {E} settings spare most first w mid f o address name pool e ss so few h = record {
   sessions = ss;
-  few = few;
+  few = inl few;
   wire = turn-wait first.wire w mid ss so.wire (next_failed w mid e h);
   asked = λ t. h.asked ∙ so.asked t;
   well = λ t st. turn-while_fit first.wire mid ss (turn-wait first.wire w mid ss so.wire (next_failed w mid e h)) t st;
@@ -309,7 +309,7 @@ abbrev pub at_listen : {T E F : Type 0} (settings : Parts) (spare most : ℕ) (w
     → AtWireFault settings spare (record { wire = w0; shelf = f0; out = o }) (record { wire = w; shelf = f; out = o }) address name most
 at_listen {T} {E} {F} settings spare most w0 w f0 f o address name x e fr h = record {
   sessions = [];
-  few = omega arith;
+  few = inr refl;
   wire = listened w0 w address (Err e) h;
   asked = h.asked;
   well = λ t st. turn-while_fit w0 w [] (listened w0 w address (Err e) h) t st;

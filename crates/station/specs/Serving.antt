@@ -39,11 +39,11 @@ pub record AtDone (settings : Parts) (spare : ℕ) (old new : Around) (address n
   pub shelf_faults : new.shelf.faults ≡ old.shelf.faults
   pub out_faults : new.out.faults ≡ old.out.faults
 
--- WireFault: `listen` or `next` failed, which they don't over a steady wire whose connections so far are fit. The airs and lines of the
--- sessions that were served stand.
+-- WireFault: `listen` or `next` failed, which they don't over a steady wire whose connections so far are fit. Fewer connections than so many
+-- were served, or none. The airs and lines of the sessions that were served stand.
 pub record AtWireFault (settings : Parts) (spare : ℕ) (old new : Around) (address name : List ℕ) (most : ℕ) : Type 0 where
   pub sessions : List (Served settings spare)
-  pub few : length sessions ≤ most
+  pub few : (length sessions < most) ⊎ (sessions ≡ [])
   pub wire : ServedInTurn old.wire new.wire sessions
   pub asked : IsTrue old.wire.tells → new.wire.asked ≡ address
   pub well : IsTrue old.wire.tells → IsTrue old.wire.steady → ServedWhileFit old.wire new.wire sessions
