@@ -105,7 +105,7 @@ front_trial printed g session bits heard rest noise all is of_noise =
     front_behind (answer_lines session.answers ++ codes "---\n") (printed (noisy_bits heard noise)) (printed (noisy_bits bits all)) (front_noisy printed g bits heard rest noise all is of_noise)
 
 -- a read of the input failed
-pub tries_broken : (settings : Parts) (spare : ℕ) (i0 i : Left ℕ) (n : Left Bool) (o0 o : Written ℕ) → AnsweredBroken settings spare i0 i o0 o → TriedInput settings spare i0 i n n o0 o
+abbrev pub tries_broken : (settings : Parts) (spare : ℕ) (i0 i : Left ℕ) (n : Left Bool) (o0 o : Written ℕ) → AnsweredBroken settings spare i0 i o0 o → TriedInput settings spare i0 i n n o0 o
 tries_broken settings spare i0 i n o0 o h = record {
   broken = h;
   noise_is = refl;
@@ -113,7 +113,7 @@ tries_broken settings spare i0 i n o0 o h = record {
 }
 
 -- an answer couldn't be printed
-pub tries_unanswered : (settings : Parts) (spare : ℕ) (i0 i : Left ℕ) (n : Left Bool) (o0 o : Written ℕ) (taken : List ℕ) → AnsweredUnprinted settings spare i0 i o0 o taken
+abbrev pub tries_unanswered : (settings : Parts) (spare : ℕ) (i0 i : Left ℕ) (n : Left Bool) (o0 o : Written ℕ) (taken : List ℕ) → AnsweredUnprinted settings spare i0 i o0 o taken
     → TriedAnswers settings spare i0 i n n o0 o
 tries_unanswered settings spare i0 i n o0 o taken h = record {
   taken = taken;
@@ -151,7 +151,7 @@ leaves_accepted settings spare session before after desk none h = record {
 }
 
 -- the line between couldn't be printed
-pub tries_between : (settings : Parts) (spare : ℕ) (printed : List Bool → List ℕ) (i0 i : Left ℕ) (before after : Pool) (desk : Desk) (n : Left Bool) (o0 o1 o2 : Written ℕ) (piece : List ℕ) (e : Failed)
+abbrev pub tries_between : (settings : Parts) (spare : ℕ) (printed : List Bool → List ℕ) (i0 i : Left ℕ) (before after : Pool) (desk : Desk) (n : Left Bool) (o0 o1 o2 : Written ℕ) (piece : List ℕ) (e : Failed)
     → printed [] ≡ [] → Grows printed → piece ≡ codes "---\n" → AnsweredInput settings spare i0 i before after desk o0 o1 → pages before ≡ [] → Puts {T = Unit {0}} o1 o2 piece (Err e)
     → TriedFront settings spare printed i0 i n n o0 o2
 tries_between settings spare printed i0 i before after desk n o0 o1 o2 piece e silent g is h none k =
