@@ -91,7 +91,7 @@ front_answers settings spare x rest front whole h k =
     record { rest = answer_lines more.answers; is = ap answer_lines more.answers_are ∙ flat_map-append answer_line front.answers more.answers }
 
 -- what is printed of the bits that were heard is a front of what is printed of all
-front_noisy : (printed : List Bool → List ℕ) → Grows printed → (bits heard rest noise all : List Bool) → bits ≡ heard ++ rest → noisy_bits heard noise ≡ noisy_bits heard all
+pub front_noisy : (printed : List Bool → List ℕ) → Grows printed → (bits heard rest noise all : List Bool) → bits ≡ heard ++ rest → noisy_bits heard noise ≡ noisy_bits heard all
     → IsFront (printed (noisy_bits heard noise)) (printed (noisy_bits bits all))
 front_noisy printed g bits heard rest noise all is of_noise =
     let more = noisy_bits rest (drop (length heard) all) in
@@ -99,7 +99,7 @@ front_noisy printed g bits heard rest noise all is of_noise =
     ap (λ (z : List Bool). z ++ more) of_noise ∙ (sym (noisy_bits-append heard rest all) ∙ ap (λ (z : List Bool). noisy_bits z all) (sym is)) in
     subst (λ (z : List Bool). IsFront (printed (noisy_bits heard noise)) (printed z)) e (g (noisy_bits heard noise) more)
 
-front_trial : (printed : List Bool → List ℕ) → Grows printed → (session : Session) (bits heard rest noise all : List Bool) → bits ≡ heard ++ rest → noisy_bits heard noise ≡ noisy_bits heard all
+pub front_trial : (printed : List Bool → List ℕ) → Grows printed → (session : Session) (bits heard rest noise all : List Bool) → bits ≡ heard ++ rest → noisy_bits heard noise ≡ noisy_bits heard all
     → IsFront (trial_lines printed session (noisy_bits heard noise)) (trial_lines printed session (noisy_bits bits all))
 front_trial printed g session bits heard rest noise all is of_noise =
     front_behind (answer_lines session.answers ++ codes "---\n") (printed (noisy_bits heard noise)) (printed (noisy_bits bits all)) (front_noisy printed g bits heard rest noise all is of_noise)
