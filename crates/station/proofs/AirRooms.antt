@@ -25,7 +25,7 @@ use Rattle.tap_block.specs.declared.ends.End.{End}
 use Rattle.tap_block.specs.declared.ends.End.TheVariants.{Etx, Etb, Us}
 use Rattle.tap_block.specs.Chars.{char_of, characters}
 use Rattle.tap_terminal.specs.Replies.{replies}
-use Rattle.station.proofs.JoinedLimit.{closing_one, items_few, replies_short, told_few}
+use Rattle.both_ends.proofs.JoinedLimit.{closing_one, items_few, replies_short, told_few}
 use Rattle.subscribers.specs.Directory.{Directory, directory_of}
 use Rattle.tap_terminal.specs.Session.{answers_of, closing, Course, Decided, Session, Told, cells_for_page, decide, is_end, pages_of, start, tell}
 use Rattle.page_text.specs.FitTest.{fits}
@@ -33,8 +33,8 @@ use Rattle.tap_terminal.specs.Verdict.{Verdict, by_end, fields_for, refused, roo
 use Rattle.tap_terminal.specs.declared.answers.Answer.TheVariants.{Ack, Nak}
 use Rattle.tap_terminal.specs.declared.answers.Reason.TheVariants.{Body, Content, Room, Text}
 use Rattle.station.specs.AirRoom.{AirsFit, ShelfFits, WireFits, most_air}
-use Rattle.station.specs.Served.{airs}
-use Rattle.station.specs.Sessions.{SessionOf}
+use Rattle.serving.specs.Served.{airs}
+use Rattle.serving.specs.Sessions.{SessionOf}
 
 -- ---- the words of a page, by its cells
 

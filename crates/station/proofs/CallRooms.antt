@@ -13,7 +13,7 @@ use Rattle.tap_entry.specs.Client.{Client, Follows, LogsOn, Page, Sends, answere
 use Rattle.tap_entry.specs.Marks.{AreMarks, Ends, IsPiece, mark_of, prompt, without_lf}
 use Rattle.tap_entry.specs.PagesFile.{IsPassword}
 use Rattle.station.specs.AirRoom.{CallFits}
-use Rattle.station.proofs.JoinedPages.{block_length}
+use Rattle.both_ends.proofs.JoinedPages.{block_length}
 
 -- ---- pages
 

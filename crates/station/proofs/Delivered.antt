@@ -9,11 +9,11 @@ use Rattle.subscribers.specs.declared.subscriber.Subscriber.{Subscriber}
 use Rattle.subscribers.specs.Directory.{Directory, directory_of}
 use Rattle.tap_entry.specs.Client.{Page}
 use Rattle.station.proofs.AcceptablePages.{are_acceptable}
-use Rattle.station.proofs.BothEnds.{both_ends}
-use Rattle.station.proofs.NearAir.{near_air}
+use Rattle.both_ends.proofs.BothEnds.{both_ends}
+use Rattle.near.proofs.NearAir.{near_air}
 use Rattle.station.specs.Delivered.{Call, Delivered, accepted_by, page_for, pages_for, sent_by}
-use Rattle.station.specs.Joined.{AreFor, sent_of}
-use Rattle.station.specs.NearAir.{joined}
+use Rattle.both_ends.specs.Joined.{AreFor, sent_of}
+use Rattle.near.specs.NearAir.{joined}
 use Rattle.receiver.specs.Shown.{pages_in, pages_of_frame}
 
 -- pages that are those of a client's are the client's as pages of their subscribers

@@ -23,8 +23,8 @@ use Rattle.wires.specs.Line.{Line}
 use Rattle.wires.specs.Stacked.{noisy_bits}
 use Rattle.station.specs.declared.outcomes.Outcome.{Outcome}
 use Rattle.station.specs.declared.outcomes.Outcome.TheVariants.{Ended, Misread, Refused}
-use Rattle.station.specs.declared.statuses.Status.{Status}
-use Rattle.station.specs.declared.statuses.Status.TheVariants.{Done, Usage, Settings, FileFault, WireFault, OutFault, InputFault, NotBlock, BadSum, BadText, TooLong, LogonRefused, SomeUnsent, Memory, BadPages}
+use Rattle.endings.specs.declared.statuses.Status.{Status}
+use Rattle.endings.specs.declared.statuses.Status.TheVariants.{Done, Usage, Settings, FileFault, WireFault, OutFault, InputFault, NotBlock, BadSum, BadText, TooLong, LogonRefused, SomeUnsent, Memory, BadPages}
 use Rattle.station.specs.AirRoom.{most_air, most_said}
 use Rattle.station.specs.AlphaPage.{alpha_page}
 use Rattle.station.specs.Commands.{Command, One, Play, Send, Show, Station, Trial}
@@ -35,13 +35,13 @@ use Rattle.station.specs.OneSend.{FitSend}
 use Rattle.station.specs.OneStation.{FitStation}
 use Rattle.station.specs.OneTrial.{FitTrial}
 use Rattle.station.specs.Outcomes.{line_about, pages_line}
-use Rattle.station.specs.PageLines.{play_lines}
-use Rattle.station.specs.ReportLine.{longest_line}
+use Rattle.listening.specs.PageLines.{play_lines}
+use Rattle.serving.specs.ReportLine.{longest_line}
 use Rattle.station.specs.Rows.{Acts, Objects, around}
-use Rattle.station.specs.Sessions.{SessionOf}
-use Rattle.station.specs.Statuses.{line_of}
-use Rattle.station.specs.Table.{table_of}
-use Rattle.station.specs.Trying.{trial_lines}
+use Rattle.serving.specs.Sessions.{SessionOf}
+use Rattle.endings.specs.Statuses.{line_of}
+use Rattle.listening.specs.Table.{table_of}
+use Rattle.serving.specs.Trying.{trial_lines}
 use Rattle.station.proofs.AirRooms.{air_few, shelf_fits}
 use Rattle.station.proofs.CallRooms.{call_fits}
 use Rattle.station.proofs.EntryNumbers.{refusal_few}

@@ -12,8 +12,8 @@ use Rattle.wires.proofs.Written.{and_both, still}
 use Rattle.wires.specs.Held.{Bytes, Held}
 use Rattle.wires.specs.Stacked.{are_bytes}
 use Rattle.wires.specs.Written.{Written}
-use Rattle.station.specs.Wrote.{as_bits, AppendsBytes, Wrote, WroteFront}
-use Rattle.station.proofs.Appended.{told_back}
+use Rattle.endings.specs.Wrote.{as_bits, AppendsBytes, Wrote, WroteFront}
+use Rattle.serving.proofs.Appended.{told_back}
 
 head_and_tail : (x : ℕ) (xs : List ℕ) → IsTrue (are_bytes (x ∷ xs)) → (x < 256) × IsTrue (are_bytes xs)
 head_and_tail x xs h =

@@ -8,8 +8,8 @@ use Rattle.wires.specs.Stacked.{are_bytes}
 use Rattle.wires.specs.Files.{all_files}
 use Rattle.wires.specs.Left.{Left}
 use Rattle.wires.specs.Written.{Written}
-use Rattle.station.specs.declared.statuses.Status.{Status}
-use Rattle.station.specs.declared.statuses.Status.TheVariants.{BadSum, BadText, Done, InputFault, Memory, NotBlock, OutFault}
+use Rattle.endings.specs.declared.statuses.Status.{Status}
+use Rattle.endings.specs.declared.statuses.Status.TheVariants.{BadSum, BadText, Done, InputFault, Memory, NotBlock, OutFault}
 use Rattle.station.specs.AlphaPage.{alpha_page}
 use Rattle.station.specs.LoneBlock.{HasText}
 use Rattle.station.specs.OneOutcome.{FitOne, OneOne}

@@ -7,16 +7,16 @@ use Rattle.wires.proofs.Written.{and_one}
 use Rattle.wires.specs.Files.{Files}
 use Rattle.wires.specs.Left.{Left}
 use Rattle.wires.specs.Written.{Written}
-use Rattle.station.specs.declared.statuses.Status.{Status}
-use Rattle.station.specs.declared.statuses.Status.TheVariants.{Done, FileFault, Memory, OutFault, TooLong}
-use Rattle.station.specs.HeardFile.{HearsFile, Plays, file_bits}
-use Rattle.station.specs.Listening.{Listens, most_bits}
+use Rattle.endings.specs.declared.statuses.Status.{Status}
+use Rattle.endings.specs.declared.statuses.Status.TheVariants.{Done, FileFault, Memory, OutFault, TooLong}
+use Rattle.listening.specs.HeardFile.{HearsFile, Plays, file_bits}
+use Rattle.listening.specs.Listening.{Listens, most_bits}
 use Rattle.station.specs.OneOutcome.{FitFile, OnePlay, OneShow, bits_listened}
-use Rattle.station.specs.PageLines.{play_lines}
-use Rattle.station.specs.Table.{table_of}
-use Rattle.station.specs.Wrote.{FitFor}
+use Rattle.listening.specs.PageLines.{play_lines}
+use Rattle.listening.specs.Table.{table_of}
+use Rattle.endings.specs.Wrote.{FitFor}
 use Rattle.station.proofs.LeftAlike.{kept_alike, same_said}
-use Rattle.station.proofs.WellListened.{read_first, read_whole}
+use Rattle.listening.proofs.WellListened.{read_first, read_whole}
 
 -- the status, where so many bits are to be listened to
 abbrev status_of : ℕ → Status

@@ -5,16 +5,16 @@ use Rattle.tap_entry.specs.declared.faults.PagesFault.{PagesFault}
 use Rattle.wires.specs.Written.{Written}
 use Rattle.station.specs.declared.outcomes.Outcome.{Outcome}
 use Rattle.station.specs.declared.outcomes.Outcome.TheVariants.{Ended, Misread, Refused}
-use Rattle.station.specs.declared.statuses.Status.{Status}
-use Rattle.station.specs.declared.statuses.Status.TheVariants.{BadPages, Done, Memory, OutFault, Settings}
+use Rattle.endings.specs.declared.statuses.Status.{Status}
+use Rattle.endings.specs.declared.statuses.Status.TheVariants.{BadPages, Done, Memory, OutFault, Settings}
 use Rattle.station.specs.Commands.{Command, One, Play, Send, Show, Station, Trial}
 use Rattle.station.specs.OneRun.{FitRun, OneRun}
 use Rattle.station.specs.Outcomes.{Tells, TellsMisread, TellsOutcome, TellsRefusal, line_about, pages_line, settings_line}
 use Rattle.station.specs.Rows.{Acts, Came, Objects}
-use Rattle.station.specs.Statuses.{line_of}
+use Rattle.endings.specs.Statuses.{line_of}
 use Rattle.station.specs.OneOutcome.{LeftAlike}
 use Rattle.station.proofs.LeftAlike.{kept_alike}
-use Rattle.station.specs.Wrote.{FitFor}
+use Rattle.endings.specs.Wrote.{FitFor}
 use Rattle.station.proofs.OneCommands.{one_command}
 use Rattle.station.proofs.OneOfOne.{one_one}
 use Rattle.station.proofs.OneOutcomes.{one_play, one_show}

@@ -19,24 +19,24 @@ use Rattle.wires.proofs.Written.{still}
 use Rattle.wires.proofs.Fronts.{fronts_of}
 use Rattle.station.specs.declared.outcomes.Outcome.{Outcome}
 use Rattle.station.specs.declared.outcomes.Outcome.TheVariants.{Ended, Misread, Refused}
-use Rattle.station.specs.declared.stages.Ending.{Ending}
-use Rattle.station.specs.declared.stages.Ending.TheVariants.{Over}
-use Rattle.station.specs.declared.stages.Logon.{Logon}
-use Rattle.station.specs.declared.stages.Logon.TheVariants.{Pending, Granted}
-use Rattle.station.specs.declared.statuses.Status.{Status}
-use Rattle.station.specs.declared.statuses.Status.TheVariants.{Done, FileFault, LogonRefused, Memory, OutFault, SomeUnsent, WireFault}
-use Rattle.station.specs.Calls.{HasCalled, HungUp, PutLines, SendsSo, status_of}
-use Rattle.station.specs.Conversations.{IsWithinDue, Stop, Stops, deaf, long, mute, silent, through}
+use Rattle.calling.specs.declared.stages.Ending.{Ending}
+use Rattle.calling.specs.declared.stages.Ending.TheVariants.{Over}
+use Rattle.calling.specs.declared.stages.Logon.{Logon}
+use Rattle.calling.specs.declared.stages.Logon.TheVariants.{Pending, Granted}
+use Rattle.endings.specs.declared.statuses.Status.{Status}
+use Rattle.endings.specs.declared.statuses.Status.TheVariants.{Done, FileFault, LogonRefused, Memory, OutFault, SomeUnsent, WireFault}
+use Rattle.calling.specs.Calls.{HasCalled, HungUp, PutLines, SendsSo, status_of}
+use Rattle.calling.specs.Conversations.{IsWithinDue, Stop, Stops, deaf, long, mute, silent, through}
 use Rattle.station.specs.OneSend.{FitSend, OneSend}
-use Rattle.station.specs.OutcomeLines.{all_sent, outcome_lines}
-use Rattle.station.specs.Progress.{EndsCall, IsLogon}
+use Rattle.calling.specs.OutcomeLines.{all_sent, outcome_lines}
+use Rattle.calling.specs.Progress.{EndsCall, IsLogon}
 use Rattle.station.specs.OneOutcome.{LeftAlike}
 use Rattle.station.specs.Rows.{Objects, around}
 use Rattle.station.specs.SendRows.{SendRow, SentBy}
-use Rattle.station.specs.Serving.{Around}
+use Rattle.serving.specs.Serving.{Around}
 use Rattle.wires.specs.Fronts.{IsFront}
-use Rattle.station.specs.Talk.{here}
-use Rattle.station.proofs.CallsUp.{next_here}
+use Rattle.endings.specs.Talk.{here}
+use Rattle.calling.proofs.CallsUp.{next_here}
 use Rattle.station.proofs.LeftAlike.{kept_alike, same_said}
 
 -- ---- what is fed

@@ -12,15 +12,15 @@ use Rattle.wires.specs.Files.{Files}
 use Rattle.wires.specs.Held.{Connection}
 use Rattle.wires.specs.Line.{Line}
 use Rattle.wires.specs.Written.{Written}
-use Rattle.station.specs.declared.session.SessionEnd.{SessionEnd}
-use Rattle.station.specs.InTurn.{IsAt}
-use Rattle.station.specs.ReportLine.{report_line}
-use Rattle.station.specs.Served.{AllFrom, FitWire, IsWhole, Served, airs, line_for, lines}
-use Rattle.station.specs.Serving.{Around, AtDone}
-use Rattle.station.proofs.InTurn.{wire_after}
+use Rattle.serving.specs.declared.session.SessionEnd.{SessionEnd}
+use Rattle.serving.specs.InTurn.{IsAt}
+use Rattle.serving.specs.ReportLine.{report_line}
+use Rattle.serving.specs.Served.{AllFrom, FitWire, IsWhole, Served, airs, line_for, lines}
+use Rattle.serving.specs.Serving.{Around, AtDone}
+use Rattle.serving.proofs.InTurn.{wire_after}
 use Rattle.air.proofs.OneAir.{one_air}
 use Rattle.station.proofs.OneBytes.{one_bytes}
-use Rattle.station.proofs.WholeSessions.{ends_as, turn-well}
+use Rattle.serving.proofs.WholeSessions.{ends_as, turn-well}
 
 -- The session was served whole on this connection, which is one of the wire's.
 pub record IsGood {settings : Parts} {spare : ℕ} (first now : Line) (k : ℕ) (s : Served settings spare) : Type 0 where

@@ -10,18 +10,18 @@ use Rattle.wires.specs.Line.{Line}
 use Rattle.wires.specs.Written.{Written}
 use Rattle.station.specs.declared.outcomes.Outcome.{Outcome}
 use Rattle.station.specs.declared.outcomes.Outcome.TheVariants.{Ended, Misread, Refused}
-use Rattle.station.specs.declared.statuses.Status.{Status}
-use Rattle.station.specs.declared.statuses.Status.TheVariants.{Done, FileFault, Memory, OutFault, WireFault}
+use Rattle.endings.specs.declared.statuses.Status.{Status}
+use Rattle.endings.specs.declared.statuses.Status.TheVariants.{Done, FileFault, Memory, OutFault, WireFault}
 use Rattle.station.specs.OneStation.{FitStation, OneStation}
 use Rattle.station.specs.ReadFile.{Unharmed}
 use Rattle.station.specs.OneOutcome.{LeftAlike}
 use Rattle.station.specs.Rows.{Objects, around}
-use Rattle.station.specs.Served.{FitOut, FitShelf, FitWire, airs}
-use Rattle.station.specs.Serving.{Around, AtDone, HasServed}
+use Rattle.serving.specs.Served.{FitOut, FitShelf, FitWire, airs}
+use Rattle.serving.specs.Serving.{Around, AtDone, HasServed}
 use Rattle.station.specs.StationRows.{ServedBy, StationRow, with_shelf}
 use Rattle.station.proofs.LeftAlike.{kept_alike, same_or_other, same_said}
 use Rattle.station.proofs.OneServings.{done_alike}
-use Rattle.station.proofs.WholeSessions.{next_fit}
+use Rattle.serving.proofs.WholeSessions.{next_fit}
 use Rattle.station.proofs.OneSettings.{ok_and_err, one_err, one_ok}
 
 -- a shelf of which a file was read is as fit
@@ -108,11 +108,11 @@ files_alike : (settings address air : List ℕ) (count : ℕ) (old new other : A
 files_alike settings address air count old new other outcome another h k sent name = elim (same_or_other air name) [
   | inl e ↦ subst (λ (n : List ℕ). (other.shelf.there n ≡ new.shelf.there n) × (other.shelf.file n ≡ new.shelf.file n)) e (both_there (other.shelf.there air) (new.shelf.there air) (k.done.file.there k.tells) (h.done.file.there h.tells), sent)
   | inr n ↦ (
-    let a = h.done.file.others name (λ e. n (sym e)) in
-    let b = k.done.file.others name (λ e. n (sym e)) in
-    let e : all_files k.shelf ≡ all_files h.shelf = k.kept ∙ sym h.kept in
-    (b.there ∙ (ap (λ (x : OtherFiles). x.there name) e ∙ sym a.there), b.file ∙ (ap (λ (x : OtherFiles). x.file name) e ∙ sym a.file))
-  )
+      let a = h.done.file.others name (λ e. n (sym e)) in
+      let b = k.done.file.others name (λ e. n (sym e)) in
+      let e : all_files k.shelf ≡ all_files h.shelf = k.kept ∙ sym h.kept in
+      (b.there ∙ (ap (λ (x : OtherFiles). x.there name) e ∙ sym a.there), b.file ∙ (ap (λ (x : OtherFiles). x.file name) e ∙ sym a.file))
+      )
 ]
   where
     both_there : (x y : Bool) → IsTrue x → IsTrue y → x ≡ y

@@ -18,19 +18,19 @@ use Rattle.wires.specs.Stacked.{noisy_bits}
 use Rattle.wires.specs.Written.{Written}
 use Rattle.station.specs.declared.outcomes.Outcome.{Outcome}
 use Rattle.station.specs.declared.outcomes.Outcome.TheVariants.{Ended, Misread, Refused}
-use Rattle.station.specs.declared.statuses.Status.{Status}
-use Rattle.station.specs.declared.statuses.Status.TheVariants.{Done, FileFault, InputFault, Memory, OutFault}
+use Rattle.endings.specs.declared.statuses.Status.{Status}
+use Rattle.endings.specs.declared.statuses.Status.TheVariants.{Done, FileFault, InputFault, Memory, OutFault}
 use Rattle.station.specs.OneTrial.{FitTrial, OneTrial}
-use Rattle.station.specs.PageLines.{play_lines}
+use Rattle.listening.specs.PageLines.{play_lines}
 use Rattle.station.specs.Rows.{Streams}
-use Rattle.station.specs.Sessions.{SessionOf}
+use Rattle.serving.specs.Sessions.{SessionOf}
 use Rattle.station.specs.StationRows.{TrialRow, TriedBy}
-use Rattle.station.specs.Trying.{TriedAll, Tries, trial_lines}
+use Rattle.serving.specs.Trying.{TriedAll, Tries, trial_lines}
 use Rattle.station.proofs.LeftAlike.{kept_alike, same_said}
 use Rattle.air.proofs.OneAir.{one_air}
 use Rattle.station.proofs.OneSettings.{ok_and_err, one_err, one_ok}
-use Rattle.station.proofs.Trials.{air_of}
-use Rattle.station.proofs.TriedWell.{tried_well}
+use Rattle.serving.proofs.Trials.{air_of}
+use Rattle.serving.proofs.TriedWell.{tried_well}
 
 -- the room for the lines of a trial
 abbrev Room : Parts → ℕ → (List Bool → List ℕ) → List ℕ → List Bool → ℕ → Type 0
@@ -127,9 +127,9 @@ one_trial settings noise capcodes old new other outcome another fit h k some som
     elim (view settings noise capcodes old.shelf new.shelf old.streams new.streams.input new.streams.out outcome fit some h.row) [
       | inl tried ↦ elim (view settings noise capcodes old.shelf other.shelf old.streams other.streams.input other.streams.out another fit some2 k.row) [
         | inl tried2 ↦ (
-          let b = both_tried settings noise capcodes old.shelf new.shelf other.shelf old.streams new.streams.out other.streams.out outcome another tried tried2 in
-          (b.0, kept_alike old new other tried.kept tried2.kept said b.1)
-        )
+            let b = both_tried settings noise capcodes old.shelf new.shelf other.shelf old.streams new.streams.out other.streams.out outcome another tried tried2 in
+            (b.0, kept_alike old new other tried.kept tried2.kept said b.1)
+            )
         | inr refused2 ↦ ok_and_err (settings_of (old.shelf.file settings)) tried.parts refused2.fault tried.settings_are refused2.settings_are
       ]
       | inr refused ↦ elim (view settings noise capcodes old.shelf other.shelf old.streams other.streams.input other.streams.out another fit some2 k.row) [

@@ -10,12 +10,12 @@ use Rattle.wires.specs.Line.{Line}
 use Rattle.wires.specs.Written.{Written}
 use Rattle.station.specs.declared.outcomes.Outcome.{Outcome}
 use Rattle.station.specs.declared.outcomes.Outcome.TheVariants.{Ended, Misread, Refused}
-use Rattle.station.specs.declared.statuses.Status.{Status}
-use Rattle.station.specs.declared.statuses.Status.TheVariants.{FileFault, Memory}
-use Rattle.station.specs.Calls.{HasSent}
+use Rattle.endings.specs.declared.statuses.Status.{Status}
+use Rattle.endings.specs.declared.statuses.Status.TheVariants.{FileFault, Memory}
+use Rattle.calling.specs.Calls.{HasSent}
 use Rattle.station.specs.ReadFile.{ReadInto, most_of_file}
 use Rattle.station.specs.SendRows.{ComesWithout, ReadPages, SendRow}
-use Rattle.station.specs.Serving.{Around}
+use Rattle.serving.specs.Serving.{Around}
 
 -- a front of a file that is short is the whole of it
 whole : (bytes : List ℕ) → length (take most_of_file bytes) ≤ most_bytes → take most_of_file bytes ≡ bytes

@@ -20,26 +20,26 @@ use Rattle.receiver.specs.Listeners.{is_one_of}
 use Rattle.receiver.specs.Receivers.{is_listed, is_paired}
 use Rattle.receiver.specs.Shown.{pages_of_frame}
 use Rattle.receiver.proofs.Shown.{shown_by-shown}
-use Rattle.station.specs.PageLines.{alone_from}
-use Rattle.station.proofs.GroupsHeard.{listed-alone}
+use Rattle.listening.specs.PageLines.{alone_from}
+use Rattle.listening.proofs.GroupsHeard.{listed-alone}
 use Rattle.wires.specs.Files.{Files}
 use Rattle.wires.specs.Left.{Left}
 use Rattle.wires.specs.Line.{Line}
 use Rattle.wires.specs.Stacked.{noisy_bits}
 use Rattle.wires.specs.Written.{Written}
 use Rattle.station.proofs.AcceptablePages.{are_acceptable}
-use Rattle.station.proofs.NearAir.{near_air}
-use Rattle.station.proofs.WholeSessions.{turn-wholes}
+use Rattle.near.proofs.NearAir.{near_air}
+use Rattle.serving.proofs.WholeSessions.{turn-wholes}
 use Rattle.station.specs.declared.outcomes.Outcome.{Outcome}
 use Rattle.station.specs.declared.outcomes.Outcome.TheVariants.{Ended, Misread, Refused}
-use Rattle.station.specs.declared.statuses.Status.TheVariants.{Done, FileFault, OutFault, Usage, WireFault}
+use Rattle.endings.specs.declared.statuses.Status.TheVariants.{Done, FileFault, OutFault, Usage, WireFault}
 use Rattle.station.specs.Commands.{AreCommand, Command, One, Play, Say, Send, Show, Station, Trial}
-use Rattle.station.specs.NearAir.{AreUsable}
+use Rattle.near.specs.NearAir.{AreUsable}
 use Rattle.station.specs.Promises.{AcceptedWhileFit, AreAccepted, FaultPromise, FilePromise, HearNear, HearsTrial, ServedSend, StationPromise, TrialPromise, accepted_in}
 use Rattle.station.specs.ReadFile.{ReadSettings, Unreadable}
 use Rattle.station.specs.Rows.{Acts, Objects, Promises}
-use Rattle.station.specs.Served.{AllFrom, IsWhole, Served, ServedInTurn, airs}
-use Rattle.station.specs.Serving.{Around, AtAppendFault, AtFreshFault}
+use Rattle.serving.specs.Served.{AllFrom, IsWhole, Served, ServedInTurn, airs}
+use Rattle.serving.specs.Serving.{Around, AtAppendFault, AtFreshFault}
 use Rattle.station.specs.StationRows.{AreFileBits, KeepsAround, ServedBy, StationRow, TrialRow, with_shelf}
 
 -- ---- capcodes of words are usable

@@ -9,14 +9,14 @@ use Rattle.wires.specs.Left.{Left}
 use Rattle.wires.specs.Stacked.{shelf_bits}
 use Rattle.wires.specs.Written.{Written}
 use Rattle.station.specs.declared.outcomes.Outcome.TheVariants.{Ended}
-use Rattle.station.specs.declared.statuses.Status.{Status}
-use Rattle.station.specs.declared.statuses.Status.TheVariants.{BadPages, BadSum, BadText, Done, FileFault, InputFault, LogonRefused, Memory, NotBlock, OutFault, Settings, SomeUnsent, TooLong, Usage, WireFault}
-use Rattle.station.specs.PageLines.{play_lines}
+use Rattle.endings.specs.declared.statuses.Status.{Status}
+use Rattle.endings.specs.declared.statuses.Status.TheVariants.{BadPages, BadSum, BadText, Done, FileFault, InputFault, LogonRefused, Memory, NotBlock, OutFault, Settings, SomeUnsent, TooLong, Usage, WireFault}
+use Rattle.listening.specs.PageLines.{play_lines}
 use Rattle.station.specs.ReadFile.{ReadSettings}
-use Rattle.station.specs.Serving.{Around, HasServed}
+use Rattle.serving.specs.Serving.{Around, HasServed}
 use Rattle.station.specs.StationRows.{AreFileBits, ServedBy, StationRow, TrialRow, TriedBy, TriesFile, with_shelf}
-use Rattle.station.specs.Trying.{Tries}
-use Rattle.station.proofs.TriedWell.{tried_well}
+use Rattle.serving.specs.Trying.{Tries}
+use Rattle.serving.proofs.TriedWell.{tried_well}
 
 -- connections were served by settings
 served_by : (address settings air : List ℕ) (count : ℕ) (old new : Around) (parts s : Parts) (shelf : Files) (n : ℕ) (status : Status) → s ≡ parts → n ≡ parts.cells

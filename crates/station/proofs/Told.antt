@@ -5,11 +5,11 @@ use Rattle.tap_entry.specs.declared.faults.PagesFault.{PagesFault}
 use Rattle.wires.specs.Written.{Written}
 use Rattle.station.specs.declared.outcomes.Outcome.{Outcome}
 use Rattle.station.specs.declared.outcomes.Outcome.TheVariants.{Ended, Misread, Refused}
-use Rattle.station.specs.declared.statuses.Status.{Status}
-use Rattle.station.specs.declared.statuses.Status.TheVariants.{BadPages, Done, OutFault, Settings}
+use Rattle.endings.specs.declared.statuses.Status.{Status}
+use Rattle.endings.specs.declared.statuses.Status.TheVariants.{BadPages, Done, OutFault, Settings}
 use Rattle.station.specs.Outcomes.{ErrWell, Tells, TellsMisread, TellsOutcome, TellsRefusal, pages_line, settings_line}
-use Rattle.station.specs.Statuses.{line_of}
-use Rattle.station.specs.Wrote.{FitFor, StaysWell, Wrote}
+use Rattle.endings.specs.Statuses.{line_of}
+use Rattle.endings.specs.Wrote.{FitFor, StaysWell, Wrote}
 
 -- nothing was put
 untouched : (old new : Written ℕ) → new ≡ old → IsTrue old.steady → StaysWell old new

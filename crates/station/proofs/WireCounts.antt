@@ -3,21 +3,21 @@ use Rattle.std.proofs.Common.{◌≡◌, inl, inr, ℕ, List, [], ◌∷◌, ◌
 use Rattle.subscribers.specs.Parts.{Parts}
 use Rattle.station.specs.declared.outcomes.Outcome.{Outcome}
 use Rattle.station.specs.declared.outcomes.Outcome.TheVariants.{Ended, Misread, Refused}
-use Rattle.station.specs.declared.statuses.Status.{Status}
-use Rattle.station.specs.declared.statuses.Status.TheVariants.{Done, FileFault, LogonRefused, Memory, OutFault, SomeUnsent, WireFault}
+use Rattle.endings.specs.declared.statuses.Status.{Status}
+use Rattle.endings.specs.declared.statuses.Status.TheVariants.{Done, FileFault, LogonRefused, Memory, OutFault, SomeUnsent, WireFault}
 use Rattle.tap_entry.specs.PagesFile.{Told}
 use Rattle.tap_entry.specs.declared.outcomes.Outcome.{Outcome as Sent}
-use Rattle.station.specs.declared.stages.Ending.{Ending}
+use Rattle.calling.specs.declared.stages.Ending.{Ending}
 use Rattle.tap_entry.specs.declared.faults.PagesFault.TheVariants as Pages
 use Rattle.wires.specs.Line.{Line}
 use Rattle.wires.specs.Written.{Written}
-use Rattle.station.specs.Calls.{CallsUp, SendsSo}
+use Rattle.calling.specs.Calls.{CallsUp, SendsSo}
 use Rattle.station.specs.SendRows.{SendRow}
 use Rattle.station.specs.Commands.{Command, One, Play, Send, Show, Station, Trial}
 use Rattle.station.specs.Rows.{Acts, Came, Objects, Outside, Runs}
-use Rattle.station.specs.Serving.{Around, HasServed}
+use Rattle.serving.specs.Serving.{Around, HasServed}
 use Rattle.station.specs.StationRows.{StationRow, with_shelf}
-use Rattle.station.proofs.InTurn.{turn-keeps}
+use Rattle.serving.proofs.InTurn.{turn-keeps}
 
 count-served : (settings : Parts) (spare : ℕ) (old new : Around) (address name : List ℕ) (most : ℕ) (status : Status) → HasServed settings spare old new address name most status → new.wire.count ≡ old.wire.count
 count-served settings spare old new address name most Done h = (turn-keeps old.wire new.wire h.sessions h.wire).count

@@ -5,8 +5,8 @@ use Rattle.tap_entry.specs.PagesFile.{IsFile, Told}
 use Rattle.wires.specs.Files.{Files, longest_name}
 use Rattle.wires.specs.Held.{Connection}
 use Rattle.wires.specs.Line.{Line}
-use Rattle.station.specs.Conversations.{HasRoom}
-use Rattle.station.specs.Served.{FitShelf, FitWire, Served, airs}
+use Rattle.calling.specs.Conversations.{HasRoom}
+use Rattle.serving.specs.Served.{FitShelf, FitWire, Served, airs}
 
 -- the most bytes that the transmission of a session's pages has, by the cells that are spare before it
 abbrev pub most_air : ℕ → ℕ

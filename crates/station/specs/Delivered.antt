@@ -16,9 +16,9 @@ use Rattle.tap_entry.specs.Marks.{AreHeard}
 use Rattle.tap_entry.specs.PagesFile.{IsPassword}
 use Rattle.tap_entry.specs.declared.hearing.Mark.{Mark}
 use Rattle.tap_entry.specs.declared.outcomes.Outcome.{Outcome}
-use Rattle.station.specs.Joined.{sent_of}
-use Rattle.station.specs.NearAir.{AreUsable}
-use Rattle.station.specs.Sessions.{SessionOf}
+use Rattle.both_ends.specs.Joined.{sent_of}
+use Rattle.near.specs.NearAir.{AreUsable}
+use Rattle.serving.specs.Sessions.{SessionOf}
 
 -- A client calls the terminal of these settings, and each hears what the other says: the client has these marks of the replies, and
 -- says for them what the terminal has this session of.

@@ -5,15 +5,15 @@ use Rattle.bits.specs.Bits.{bytes_bits}
 use Rattle.tap_block.specs.Chars.{characters}
 use Rattle.wires.specs.Files.{Files}
 use Rattle.wires.specs.Stacked.{are_bytes}
-use Rattle.station.specs.declared.statuses.Status.{Status}
-use Rattle.station.specs.declared.statuses.Status.TheVariants.{Memory}
+use Rattle.endings.specs.declared.statuses.Status.{Status}
+use Rattle.endings.specs.declared.statuses.Status.TheVariants.{Memory}
 use Rattle.station.specs.AlphaPage.{alpha_page}
-use Rattle.station.specs.Listening.{most_bits}
+use Rattle.listening.specs.Listening.{most_bits}
 use Rattle.station.specs.LoneBlock.{HasText, IsMarkedBlock}
-use Rattle.station.specs.PageLines.{play_lines}
+use Rattle.listening.specs.PageLines.{play_lines}
 use Rattle.station.specs.Rows.{Objects, RunsOne, RunsPlay, RunsShow, Streams}
-use Rattle.station.specs.Table.{table_of}
-use Rattle.station.specs.Wrote.{FitFor}
+use Rattle.listening.specs.Table.{table_of}
+use Rattle.endings.specs.Wrote.{FitFor}
 
 -- Two runs left the same bytes: in the output, in each file, and said on each connection. What was read at a time, and how far a
 -- connection was read beyond the end of its session, may differ.

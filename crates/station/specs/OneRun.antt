@@ -1,18 +1,18 @@
 -- Two runs of the same words over the same objects, where no call fails, come to the same.
 use Rattle.std.specs.Prelude.{◌≡◌, ◌≢◌, ℕ, ◌≤◌, List, length, Option, Some, None, IsTrue}
 use Rattle.station.specs.declared.outcomes.Outcome.{Outcome}
-use Rattle.station.specs.declared.statuses.Status.{Status}
-use Rattle.station.specs.declared.statuses.Status.TheVariants.{Memory}
+use Rattle.endings.specs.declared.statuses.Status.{Status}
+use Rattle.endings.specs.declared.statuses.Status.TheVariants.{Memory}
 use Rattle.station.specs.Commands.{AreCommand, Command, One, Play, Send, Show, Station, Trial}
 use Rattle.station.specs.OneOutcome.{FitFile, FitOne, LeftAlike, bits_listened}
 use Rattle.station.specs.OneSend.{FitSend}
 use Rattle.station.specs.OneStation.{FitStation}
 use Rattle.station.specs.OneTrial.{FitTrial}
 use Rattle.station.specs.Outcomes.{line_about}
-use Rattle.station.specs.PageLines.{play_lines}
+use Rattle.listening.specs.PageLines.{play_lines}
 use Rattle.station.specs.Rows.{Acts, Objects, Outside, Runs, around}
-use Rattle.station.specs.Table.{table_of}
-use Rattle.station.specs.Wrote.{FitFor}
+use Rattle.listening.specs.Table.{table_of}
+use Rattle.endings.specs.Wrote.{FitFor}
 
 -- the objects are fit for a command
 abbrev pub FitRun : Option Command → Objects → Type 0
@@ -23,7 +23,6 @@ FitRun (Some (Show air)) old = FitFile air old.shelf × FitFor old.streams.out (
 FitRun (Some (Station address settings air count)) old = FitStation settings air count (around old)
 FitRun (Some (Trial settings noise capcodes)) old = FitTrial settings noise capcodes old.shelf old.streams
 FitRun (Some (Send address pages)) old = FitSend pages (around old)
-
 
 -- The output of errors is steady, and has room for the line about whatever the command may come to.
 pub record FitErr (command : Option Command) (old : Outside) : Type 0 where

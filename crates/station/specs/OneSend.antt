@@ -3,11 +3,11 @@ use Rattle.std.specs.Prelude.{◌≡◌, ◌≢◌, ℕ, ◌*◌, ◌<◌, ◌�
 use Rattle.tap_entry.specs.PagesFile.{IsFile, Told}
 use Rattle.station.specs.declared.outcomes.Outcome.{Outcome}
 use Rattle.station.specs.declared.outcomes.Outcome.TheVariants.{Ended}
-use Rattle.station.specs.declared.statuses.Status.TheVariants.{Memory}
-use Rattle.station.specs.Conversations.{HasRoom}
+use Rattle.endings.specs.declared.statuses.Status.TheVariants.{Memory}
+use Rattle.calling.specs.Conversations.{HasRoom}
 use Rattle.station.specs.OneOutcome.{LeftAlike}
 use Rattle.station.specs.Rows.{Objects, RunsSend, around}
-use Rattle.station.specs.Serving.{Around}
+use Rattle.serving.specs.Serving.{Around}
 
 -- The shelf is steady and has the pages file. The wire is steady and has a connection left, which has room for what the client says for
 -- each front of what is due. The output is steady, and has room for 20 bytes a page.

@@ -4,11 +4,11 @@ use Rattle.subscribers.specs.Parts.{Parts}
 use Rattle.subscribers.specs.Settings.{settings_of}
 use Rattle.station.specs.declared.outcomes.Outcome.{Outcome}
 use Rattle.station.specs.declared.outcomes.Outcome.TheVariants.{Ended}
-use Rattle.station.specs.declared.statuses.Status.TheVariants.{Memory}
+use Rattle.endings.specs.declared.statuses.Status.TheVariants.{Memory}
 use Rattle.station.specs.OneOutcome.{LeftAlike}
 use Rattle.station.specs.Rows.{Objects, RunsStation, around}
-use Rattle.station.specs.Served.{FitOut, FitShelf, FitWire}
-use Rattle.station.specs.Serving.{Around}
+use Rattle.serving.specs.Served.{FitOut, FitShelf, FitWire}
+use Rattle.serving.specs.Serving.{Around}
 
 -- The shelf is steady and has the settings file. Where the file gives settings, wire, shelf and output are fit for serving by them.
 pub record FitStation (settings air : List ℕ) (count : ℕ) (old : Around) : Type 0 where

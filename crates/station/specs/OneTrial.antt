@@ -9,12 +9,12 @@ use Rattle.wires.specs.Files.{Files}
 use Rattle.wires.specs.Stacked.{noisy_bits}
 use Rattle.station.specs.declared.outcomes.Outcome.{Outcome}
 use Rattle.station.specs.declared.outcomes.Outcome.TheVariants.{Ended}
-use Rattle.station.specs.declared.statuses.Status.TheVariants.{Memory}
+use Rattle.endings.specs.declared.statuses.Status.TheVariants.{Memory}
 use Rattle.station.specs.OneOutcome.{LeftAlike}
-use Rattle.station.specs.PageLines.{play_lines}
+use Rattle.listening.specs.PageLines.{play_lines}
 use Rattle.station.specs.Rows.{Objects, RunsTrial, Streams}
-use Rattle.station.specs.Sessions.{SessionOf}
-use Rattle.station.specs.Trying.{trial_lines}
+use Rattle.serving.specs.Sessions.{SessionOf}
+use Rattle.serving.specs.Trying.{trial_lines}
 
 -- The shelf is steady and has both files, the input is steady, and the output too, with room for the lines of the trial.
 pub record FitTrial (settings noise capcodes : List ℕ) (shelf : Files) (streams : Streams) : Type 0 where

@@ -7,10 +7,10 @@ use Rattle.tap_entry.specs.declared.faults.PagesFault.TheVariants as Pages
 use Rattle.wires.specs.Written.{Written}
 use Rattle.station.specs.declared.outcomes.Outcome.{Outcome}
 use Rattle.station.specs.declared.outcomes.Outcome.TheVariants.{Ended, Misread, Refused}
-use Rattle.station.specs.declared.statuses.Status.{Status}
-use Rattle.station.specs.declared.statuses.Status.TheVariants.{BadPages, Done, OutFault, Settings}
-use Rattle.station.specs.Statuses.{line_of}
-use Rattle.station.specs.Wrote.{FitFor, StaysWell, Wrote, WroteFront}
+use Rattle.endings.specs.declared.statuses.Status.{Status}
+use Rattle.endings.specs.declared.statuses.Status.TheVariants.{BadPages, Done, OutFault, Settings}
+use Rattle.endings.specs.Statuses.{line_of}
+use Rattle.endings.specs.Wrote.{FitFor, StaysWell, Wrote, WroteFront}
 
 -- what is said of a settings file that is refused. The numbers count entries from 1
 abbrev pub fault_text : SettingsFault → List ℕ

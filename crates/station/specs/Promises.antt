@@ -16,13 +16,13 @@ use Rattle.wires.specs.Stacked.{noisy_bits}
 use Rattle.wires.specs.Written.{Written}
 use Rattle.station.specs.declared.outcomes.Outcome.{Outcome}
 use Rattle.station.specs.declared.outcomes.Outcome.TheVariants.{Ended}
-use Rattle.station.specs.declared.statuses.Status.TheVariants.{Done, FileFault, OutFault, WireFault}
-use Rattle.station.specs.NearAir.{AreUsable, joined}
-use Rattle.station.specs.PageLines.{alone_from, pairs_heard}
-use Rattle.station.specs.Served.{AllFrom, NextFit, Served, airs}
+use Rattle.endings.specs.declared.statuses.Status.TheVariants.{Done, FileFault, OutFault, WireFault}
+use Rattle.near.specs.NearAir.{AreUsable, joined}
+use Rattle.listening.specs.PageLines.{alone_from, pairs_heard}
+use Rattle.serving.specs.Served.{AllFrom, NextFit, Served, airs}
 use Rattle.station.specs.ReadFile.{Unreadable}
-use Rattle.station.specs.Serving.{Around, AtAppendFault, AtFreshFault}
-use Rattle.station.specs.Sessions.{SessionOf}
+use Rattle.serving.specs.Serving.{Around, AtAppendFault, AtFreshFault}
+use Rattle.serving.specs.Sessions.{SessionOf}
 use Rattle.station.specs.StationRows.{KeepsAround, ServedBy, StationRow, TrialRow, with_shelf}
 
 -- What each receiver, by its number, prints of each frame are exactly the pages of its capcodes in these lists, in order, each with its

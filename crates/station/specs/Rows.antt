@@ -8,22 +8,22 @@ use Rattle.wires.specs.Files.{Files}
 use Rattle.wires.specs.Left.{Left, Took}
 use Rattle.wires.specs.Line.{Line}
 use Rattle.wires.specs.Written.{Written}
-use Rattle.station.specs.declared.statuses.Status.{Status}
-use Rattle.station.specs.declared.statuses.Status.TheVariants.{BadSum, BadText, Done, InputFault, Memory, NotBlock, OutFault, Usage}
+use Rattle.endings.specs.declared.statuses.Status.{Status}
+use Rattle.endings.specs.declared.statuses.Status.TheVariants.{BadSum, BadText, Done, InputFault, Memory, NotBlock, OutFault, Usage}
 use Rattle.station.specs.AlphaPage.{alpha_page}
 use Rattle.station.specs.Commands.{AreCommand, Command, One, Play, Send, Show, Station, Trial}
-use Rattle.station.specs.HeardFile.{HearsFile, Plays}
+use Rattle.listening.specs.HeardFile.{HearsFile, Plays}
 use Rattle.station.specs.LoneBlock.{HasText, IsLoneBlock, IsMarkedBlock}
-use Rattle.station.specs.PageLines.{play_lines}
+use Rattle.listening.specs.PageLines.{play_lines}
 use Rattle.station.specs.Promises.{HearNear, StationPromise, TrialPromise}
 use Rattle.station.specs.Outcomes.{ErrWell, TellsOutcome}
 use Rattle.station.specs.declared.outcomes.Outcome.{Outcome}
 use Rattle.station.specs.declared.outcomes.Outcome.TheVariants.{Ended, Misread, Refused}
 use Rattle.station.specs.SendRows.{SendRow}
-use Rattle.station.specs.Serving.{Around}
+use Rattle.serving.specs.Serving.{Around}
 use Rattle.station.specs.StationRows.{StationRow, TrialRow}
-use Rattle.station.specs.Table.{table_of}
-use Rattle.station.specs.Wrote.{as_bits, AppendsBytes, Wrote, WroteFront}
+use Rattle.listening.specs.Table.{table_of}
+use Rattle.endings.specs.Wrote.{as_bits, AppendsBytes, Wrote, WroteFront}
 
 -- what the input and the output of a command tell
 pub record Streams : Type 0 where

@@ -6,11 +6,11 @@ use Rattle.tap_entry.specs.declared.faults.PagesFault.TheVariants as Pages
 use Rattle.wires.specs.Files.{Files}
 use Rattle.station.specs.declared.outcomes.Outcome.{Outcome}
 use Rattle.station.specs.declared.outcomes.Outcome.TheVariants.{Ended, Misread, Refused}
-use Rattle.station.specs.declared.statuses.Status.{Status}
-use Rattle.station.specs.declared.statuses.Status.TheVariants.{FileFault, Memory}
-use Rattle.station.specs.Calls.{HasSent}
+use Rattle.endings.specs.declared.statuses.Status.{Status}
+use Rattle.endings.specs.declared.statuses.Status.TheVariants.{FileFault, Memory}
+use Rattle.calling.specs.Calls.{HasSent}
 use Rattle.station.specs.ReadFile.{Unharmed, Unreadable}
-use Rattle.station.specs.Serving.{Around}
+use Rattle.serving.specs.Serving.{Around}
 use Rattle.station.specs.StationRows.{KeepsAround}
 
 -- The file was there and was read, and says these pages. Where the shelf doesn't tell, some bytes say them.

@@ -3,7 +3,7 @@ use Rattle.std.specs.Prelude.{Bool, List, [], ◌∷◌, ℕ, Result, Ok, Err}
 use Rattle.air.specs.Air.{IsAir}
 use Rattle.page_text.specs.Page.{Page}
 use Rattle.wires.specs.Written.{Written}
-use Rattle.station.specs.Wrote.{as_bits, Wrote, WroteFront}
+use Rattle.endings.specs.Wrote.{as_bits, Wrote, WroteFront}
 
 -- the bits were written whole, or after Failed a front of them
 abbrev pub SendsAll : {T E : Type 0} → Written ℕ → Written ℕ → List Bool → Result T E → Type 0

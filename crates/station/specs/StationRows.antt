@@ -9,12 +9,12 @@ use Rattle.station.specs.declared.opening.Unopened.{Unopened}
 use Rattle.station.specs.declared.opening.Unopened.TheVariants as NotOpened
 use Rattle.station.specs.declared.outcomes.Outcome.{Outcome}
 use Rattle.station.specs.declared.outcomes.Outcome.TheVariants.{Ended, Misread, Refused}
-use Rattle.station.specs.declared.statuses.Status.{Status}
-use Rattle.station.specs.declared.statuses.Status.TheVariants.{FileFault, Memory}
-use Rattle.station.specs.PageLines.{play_lines}
+use Rattle.endings.specs.declared.statuses.Status.{Status}
+use Rattle.endings.specs.declared.statuses.Status.TheVariants.{FileFault, Memory}
+use Rattle.listening.specs.PageLines.{play_lines}
 use Rattle.station.specs.ReadFile.{KeepsFiles, ReadSettings, RefusedSettings, Unharmed, Unreadable}
-use Rattle.station.specs.Serving.{Around, HasServed}
-use Rattle.station.specs.Trying.{TrialOutWell, Tries}
+use Rattle.serving.specs.Serving.{Around, HasServed}
+use Rattle.serving.specs.Trying.{TrialOutWell, Tries}
 
 -- with this shelf in place of its own
 abbrev pub with_shelf : Around → Files → Around

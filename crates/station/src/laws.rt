@@ -1,15 +1,13 @@
-//! Laws of what `one` reads, of the pages that a session accepts, of what is heard of transmissions with few wrong bits, of a client and
-//! a terminal that hear one another, and of the whole way from clients to receivers.
+//! Laws of what `one` reads, of the pages that a session accepts, of the whole way from clients to receivers, of the one outcome that a
+//! run can have, and of the room that it takes.
 
 ghost use Rattle.std.specs.Prelude.{◌≡◌, ℕ, Bool, List};
 ghost use Rattle.station.specs.AcceptedPages.{AreAcceptable};
 ghost use Rattle.station.specs.AirRoom.{AirsFit, CallFits, ShelfFits, WireFits};
 ghost use Rattle.station.specs.Delivered.{Delivered};
 ghost use Rattle.station.specs.FitWorlds.{FitErrWithRoom, FitInMemory, FitWithRoom};
-ghost use Rattle.station.specs.InTurn.{AllInTurn};
-ghost use Rattle.station.specs.Joined.{BothEnds};
+ghost use Rattle.serving.specs.InTurn.{AllInTurn};
 ghost use Rattle.station.specs.LoneBlock.{HasText, IsMarkedBlock};
-ghost use Rattle.station.specs.NearAir.{CleanAir, NearAir};
 ghost use Rattle.station.specs.OneOutcome.{OneOne, OnePlay, OneShow};
 ghost use Rattle.station.specs.OneRun.{OneRun};
 ghost use Rattle.station.specs.OneSend.{OneSend};
@@ -21,19 +19,6 @@ ghost use Rattle.station.specs.OneTrial.{OneTrial};
 pub fn one_answer()
     ensures block { (x body other : List ℕ) (right marked : Bool) → IsMarkedBlock x body right → IsMarkedBlock x other marked → (other ≡ body) × (marked ≡ right) }
     ensures text { (content text other : List ℕ) → HasText content text → HasText content other → other ≡ text }
-{}
-
-/// Where every preamble is heard as it was sent, and every word after it with at most two wrong bits, a receiver hears exactly the
-/// accepted pages of its capcodes, whole, and those of one frame in order. Transmissions that are heard as they were sent are near.
-pub fn near_air()
-    ensures near { NearAir }
-    ensures clean { CleanAir }
-{}
-
-/// Where a client says what it says for the marks of the terminal's replies, and the terminal replies so to what the client says, the
-/// accepted pages are those that the client marks Sent, in their order, each with its id's subscriber and its text.
-pub fn joined()
-    ensures { BothEnds }
 {}
 
 /// From clients to receivers: where clients and the terminal of a station hear one another, and the transmissions of what it accepted

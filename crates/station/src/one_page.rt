@@ -13,10 +13,10 @@ ghost use Rattle.station.specs.Sends.{Sends};
 
 use crate::blocks::{LONGEST_BLOCK, lone_block};
 use crate::input::read_front;
-use crate::statuses::Status;
 use crate::texts::read_text;
 use air::{Sent, transmit};
 use codeword::{Capcode, Function};
+use endings::statuses::Status;
 use page_pool::Pool;
 use std::alloc::Global;
 use tap_block::LONGEST_BODY;

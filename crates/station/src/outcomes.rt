@@ -4,8 +4,8 @@ ghost use Rattle.std.specs.Prelude.{◌≡◌, ◌++◌, ◌+◌, ◌≤◌, dec
 ghost use Rattle.arrayvec.specs.ArrayVec.{array_vec_len};
 ghost use Rattle.station.specs.Outcomes.{Tells, TellsMisread, TellsOutcome, TellsRefusal, fault_text, pages_line as pages_line_of, pages_text, settings_line as settings_line_of};
 
-use crate::statuses::Status;
 use arrayvec::ArrayVec;
+use endings::statuses::Status;
 use itoa::Buffer;
 use subscribers::SettingsFault;
 use tap_entry::PagesFault;

@@ -5,8 +5,8 @@ ghost use Rattle.station.specs.SendRows.{ComesWithout, SendRow};
 
 use crate::files::{Unread, read_file};
 use crate::outcomes::Outcome;
-use crate::sending_pages::send;
-use crate::statuses::Status;
+use calling::sending_pages::send;
+use endings::statuses::Status;
 use std::alloc::Global;
 use tap_entry::{Pages, PagesFault};
 use wires::shelf::Shelf;

@@ -2,17 +2,17 @@
 
 ghost use Rattle.std.specs.Prelude.{◌≡◌, []};
 ghost use Rattle.receiver.specs.Listeners.{StandsFor as HasHeard};
-ghost use Rattle.station.specs.PageLines.{group_lines};
+ghost use Rattle.listening.specs.PageLines.{group_lines};
 ghost use Rattle.station.specs.StationRows.{ComesTo, StationRow, TrialRow, TriesFile};
 
 use crate::capcodes::Capcodes;
 use crate::commands::StationLine;
 use crate::opening::{Unopened, read_settings};
 use crate::outcomes::Outcome;
-use crate::playing::group_of;
-use crate::session::Station;
-use crate::statuses::Status;
+use endings::statuses::Status;
+use listening::playing::group_of;
 use receiver::Group;
+use serving::session::Station;
 use std::alloc::Global;
 use wires::Memory;
 use wires::byte_bits::ShelfBits;

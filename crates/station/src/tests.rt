@@ -1,6 +1,6 @@
 //! The codes of statuses.
 
-use crate::statuses::Status;
+use endings::statuses::Status;
 
 /// Each status with its code.
 const CODES: [(Status, u8); 15] = [

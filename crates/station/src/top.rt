@@ -3,19 +3,19 @@
 ghost use Rattle.std.specs.Prelude.{◌≡◌};
 ghost use Rattle.station.specs.Commands.{texts};
 ghost use Rattle.station.specs.Meant.{meant};
-ghost use Rattle.station.specs.HeardFile.{Plays};
-ghost use Rattle.station.specs.PageLines.{play_lines};
+ghost use Rattle.listening.specs.HeardFile.{Plays};
+ghost use Rattle.listening.specs.PageLines.{play_lines};
 ghost use Rattle.station.specs.Rows.{Acts, Runs};
 
 use crate::capcodes::Capcodes;
 use crate::commands::{CommandLine, parse};
-use crate::hearing::{play_file, show_file};
 use crate::one_page::one;
 use crate::outcomes::{Outcome, tell_outcome};
 use crate::pages_runs::run_send;
-use crate::playing::group_of;
 use crate::settings_runs::{run_station, run_trial};
-use crate::statuses::Status;
+use endings::statuses::Status;
+use listening::hearing::{play_file, show_file};
+use listening::playing::group_of;
 use std::alloc::Global;
 use wires::Memory;
 use wires::shelf::Shelf;

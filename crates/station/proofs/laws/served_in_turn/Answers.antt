@@ -1,4 +1,4 @@
-use Rattle.station.proofs.WholeSessions.{all_in_turn}
+use Rattle.serving.proofs.WholeSessions.{all_in_turn}
 use Rattle.station.proofs.laws.served_in_turn.Goals as goal
 
 pub returns : goal.returns

@@ -1,6 +1,6 @@
 use Rattle.std.proofs.Common.{◌∙◌, ap}
 use Rattle.subscribers.specs.Parts.{Parts}
-use Rattle.station.specs.PageLines.{group_lines, play_lines}
+use Rattle.listening.specs.PageLines.{group_lines, play_lines}
 use Rattle.station.proofs.SettingsRuns.{trial_row}
 use Rattle.station.proofs.settings_runs.run_trial.Goals as goal
 

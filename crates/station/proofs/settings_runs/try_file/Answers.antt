@@ -1,5 +1,5 @@
 use Rattle.std.proofs.Common.{ap, rules}
-use Rattle.station.specs.PageLines.{group_lines}
+use Rattle.listening.specs.PageLines.{group_lines}
 use Rattle.station.specs.StationRows.{TriesFile}
 use Rattle.station.proofs.SettingsRuns.{tries_file}
 use Rattle.station.proofs.settings_runs.try_file.Goals as goal

@@ -1,6 +1,6 @@
 use Rattle.std.proofs.Common.{◌∙◌, ap}
-use Rattle.station.specs.PageLines.{group_lines, play_lines}
-use Rattle.station.proofs.GroupsHeard.{plays_same}
+use Rattle.listening.specs.PageLines.{group_lines, play_lines}
+use Rattle.listening.proofs.GroupsHeard.{plays_same}
 use Rattle.station.proofs.top.play_air.Goals as goal
 
 pub returns-in-Ok : goal.returns-in-Ok

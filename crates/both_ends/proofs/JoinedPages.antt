@@ -1,0 +1,316 @@
+-- A logged on client and a terminal, block by block.
+use Rattle.std.proofs.Common.{◌≡◌, ◌≢◌, ℕ, suc, zero, ◌+◌, ◌-◌, ◌*◌, ◌<◌, ◌≤◌, ◌==◌, cond, Bool, true, false, List, [], ◌∷◌, ◌++◌, length, take, refl, ap, sym, ◌∙◌, subst, arith, append_assoc, append-nil, Option, Some, ◌⊎◌, inl, inr, min, nat_lt, length-append, length-take, length-drop}
+use Rattle.std.specs.List.{AllByRecursion, flat_map}
+use Rattle.std.proofs.Math.Seq.{take-add, take-append-add}
+use Rattle.std.proofs.lemmas.List.{take_all}
+use Rattle.std.proofs.lemmas.List.Sums.{sum_by-append}
+use Rattle.std.proofs.lemmas.Bool.Decides.{nat_tests}
+use Rattle.tap_block.specs.declared.ends.End.{End}
+use Rattle.tap_block.specs.declared.ends.End.TheVariants.{Etx, Us}
+use Rattle.tap_block.specs.Chars.{stx, cr, end_char, written, sum_of}
+use Rattle.tap_block.specs.Reading.{IsBody, IsBodyChar, AfterLogon, Piece, bye, Reads, Entry, a_block, items_of}
+use Rattle.tap_block.specs.Fields.{block_of}
+use Rattle.both_ends.proofs.JoinedPieces.{goes_first}
+use Rattle.both_ends.proofs.JoinedPieces.{block_first}
+use Rattle.tap_terminal.specs.declared.answers.Answer.TheVariants.{Ack}
+use Rattle.page_text.specs.Page.{Page as Accepted}
+use Rattle.subscribers.specs.Directory.{Directory}
+use Rattle.tap_terminal.specs.Verdict.{Verdict, refused, judge_content, by_end, verdict}
+use Rattle.tap_terminal.specs.Session.{Course, is_end, decided, tell, answers_of, pages_of}
+use Rattle.tap_entry.specs.declared.hearing.Mark.{Mark}
+use Rattle.tap_entry.specs.declared.hearing.Mark.TheVariants.{Ack as AckMark, Rs as RsMark}
+use Rattle.tap_entry.specs.declared.outcomes.Outcome.{Outcome}
+use Rattle.tap_entry.specs.declared.outcomes.Outcome.TheVariants.{Sent, Abandoned, TriesSpent, Disconnected, NoLogon}
+use Rattle.tap_entry.specs.Client.{Page, IsPage, content, count_of, body_at, block_at, acks, is_ack, Decides, IsUndecided, said_after, good_bye, all_are, Follows, Sends}
+use Rattle.both_ends.specs.Joined.{sent_of, IsFor, AreFor}
+use Rattle.both_ends.proofs.JoinedReplies.{marks_for}
+use Rattle.both_ends.proofs.JoinedContents.{content_body, content_length, content_some, IsJudged, taken, refused_for, judged, all_take, all_drop}
+
+abbrev pub heard_from : Directory → Course → List Entry → List Mark
+heard_from table s items = flat_map marks_for (answers_of (tell table s items))
+
+abbrev pub accepted_from : Directory → Course → List Entry → List Accepted
+accepted_from table s items = pages_of (tell table s items)
+
+-- a right block with room is judged by its end
+fits_in : (table : Directory) (spare : ℕ) (joined b : List ℕ) (e : End) → length b ≤ 250 → length joined + length b ≤ 1000
+    → verdict table spare joined b e true ≡ by_end table spare e (joined ++ b)
+fits_in table spare joined b e h k =
+    let s : nat_lt 250 (length b) ≡ false = grind (arith, nat_tests) in
+    let t : nat_lt 1000 (length joined + length b) ≡ false = grind (arith, nat_tests) in
+    rw (s, t) refl
+
+-- What a block of a page under way is answered.
+data Answered (table : Directory) (p : Page) (k : ℕ) (s : Course) (items others : List Entry) : Type 0 where
+  further : k + 1 < count_of (content p) → (t : Course) → t.joined ≡ take (250 * (k + 1)) (content p)
+      → heard_from table s items ≡ AckMark ∷ heard_from table t others → accepted_from table s items ≡ accepted_from table t others → Answered table p k s items others
+  accepted : k + 1 ≡ count_of (content p) → (t : Course) → t.joined ≡ [] → (a : Accepted) → IsFor table p a
+      → heard_from table s items ≡ AckMark ∷ heard_from table t others → accepted_from table s items ≡ a ∷ accepted_from table t others → Answered table p k s items others
+  given_up : k + 1 ≡ count_of (content p) → (t : Course) → t.joined ≡ []
+      → heard_from table s items ≡ RsMark ∷ heard_from table t others → accepted_from table s items ≡ accepted_from table t others → Answered table p k s items others
+
+-- the bodies up to k and the next one
+body_joins : (x : List ℕ) (k : ℕ) → take (250 * k) x ++ body_at x k ≡ take (250 * (k + 1)) x
+body_joins x k = let e : 250 * (k + 1) ≡ 250 * k + 250 = omega arith in sym (ap (λ n. take n x) e ∙ take-add (250 * k) 250 x)
+
+last_whole : (x : List ℕ) (k : ℕ) → k + 1 ≡ count_of x → take (250 * (k + 1)) x ≡ x
+last_whole x k e = take_all (250 * (k + 1)) x (omega (arith, e))
+
+-- what is told of a right block by its verdict
+told_block : (table : Directory) (s : Course) (b : List ℕ) (e : End) (es : List Entry) (v : Verdict) → verdict table s.spare s.joined b e true ≡ v
+    → tell table s (a_block b e true ∷ es) ≡ (let d = decided (a_block b e true) s v in d.told ∷ cond (is_end d.told.answer) [] (tell table d.course es))
+told_block table s b e es v h = ap (λ w. let d = decided (a_block b e true) s w in d.told ∷ cond (is_end d.told.answer) [] (tell table d.course es)) h
+
+answered_more : (table : Directory) (p : Page) (k : ℕ) (s : Course) (others : List Entry) → IsPage p → k + 1 < count_of (content p)
+    → s.joined ≡ take (250 * k) (content p) → Answered table p k s (a_block (body_at (content p) k) Us true ∷ others) others
+answered_more table p k s others h more j =
+    let b = body_at (content p) k in
+    let n = content_length p h in
+    let lb : length b ≤ 250 = simp length-take (omega arith) in
+    let lj : s.joined ++ b ≡ take (250 * (k + 1)) (content p) = ap (λ z. z ++ b) j ∙ body_joins (content p) k in
+    let l : length s.joined + length b ≤ 1000 = (let q = ap length lj in let r = length-append s.joined b in let u : length (take (250 * (k + 1)) (content p)) ≤ length (content p) = simp length-take (omega arith) in omega (arith, q, r, u, n)) in
+    let v = fits_in table s.spare s.joined b Us lb l in
+    let t = told_block table s b Us others _ v in
+    further more (record s { joined = s.joined ++ b; spare = s.spare - 0 }) lj (ap (λ z. flat_map marks_for (answers_of z)) t) (ap pages_of t)
+
+answered_last : (table : Directory) (p : Page) (k : ℕ) (s : Course) (others : List Entry) → IsPage p → k + 1 ≡ count_of (content p)
+    → s.joined ≡ take (250 * k) (content p) → Answered table p k s (a_block (body_at (content p) k) Etx true ∷ others) others
+answered_last table p k s others h last j =
+    let b = body_at (content p) k in
+    let n = content_length p h in
+    let lb : length b ≤ 250 = simp length-take (omega arith) in
+    let lj : s.joined ++ b ≡ content p = ap (λ z. z ++ b) j ∙ body_joins (content p) k ∙ last_whole (content p) k last in
+    let l : length s.joined + length b ≤ 1000 = (let q = ap length lj in let r = length-append s.joined b in omega (arith, q, r, n)) in
+    let v : verdict table s.spare s.joined b Etx true ≡ judge_content table s.spare (content p) = fits_in table s.spare s.joined b Etx lb l ∙ ap (judge_content table s.spare) lj in
+    by_verdict (judge_content table s.spare (content p)) (judged table s.spare p h) v
+  where
+    by_verdict : (v : Verdict) → IsJudged table p v → verdict table s.spare s.joined (body_at (content p) k) Etx true ≡ v
+        → Answered table p k s (a_block (body_at (content p) k) Etx true ∷ others) others
+    by_verdict v (taken sub known) e = let t = told_block table s (body_at (content p) k) Etx others _ e in
+        accepted last (decided (a_block (body_at (content p) k) Etx true) s (record { answer = Ack; joined = []; page = Some (record { capcode = sub.capcode; function = sub.function; text = p.text }) })).course refl
+        (record { capcode = sub.capcode; function = sub.function; text = p.text }) (sub, known, refl) (ap (λ z. flat_map marks_for (answers_of z)) t) (ap pages_of t)
+    by_verdict v (refused_for reason) e = let t = told_block table s (body_at (content p) k) Etx others _ e in
+        given_up last (decided (a_block (body_at (content p) k) Etx true) s (refused reason)).course refl (ap (λ z. flat_map marks_for (answers_of z)) t) (ap pages_of t)
+
+-- The block is read and answered.
+record IsTaken (password : Option (List ℕ)) (table : Directory) (p : Page) (k : ℕ) (s : Course) (next : List ℕ) (ps : List Piece) (r : List ℕ) : Type 0 where
+  others : List Piece
+  reads : Reads password AfterLogon others r next
+  answered : Answered table p k s (items_of password ps) (items_of password others)
+
+taken_in : (password : Option (List ℕ)) (table : Directory) (p : Page) (k : ℕ) (s : Course) (next : List ℕ) (ps : List Piece) (r x : List ℕ) → IsPage p
+    → k < count_of (content p) → s.joined ≡ take (250 * k) (content p) → x ≡ block_at (content p) k ++ next → Reads password AfterLogon ps r x
+    → IsTaken password table p k s next ps r
+taken_in password table p k s next ps r x h few j form reads = by_end_of (k + 1 == count_of (content p)) refl
+  where
+    body : IsBody (body_at (content p) k)
+    body = all_take IsBodyChar 250 _ (all_drop IsBodyChar (250 * k) _ (content_body p h))
+
+    by_end_of : (b : Bool) → (k + 1 == count_of (content p)) ≡ b → IsTaken password table p k s next ps r
+    by_end_of true e =
+        let f = block_first password (body_at (content p) k) Etx next ps r x body (form ∙ ap (λ z. block_of (body_at (content p) k) (cond z Etx Us) ++ next) e) reads in
+        let last : k + 1 ≡ count_of (content p) = grind (arith, nat_tests) in
+        record { others = f.others; reads = f.reads; answered = subst (λ z. Answered table p k s z (items_of password f.others)) (sym f.items) (answered_last table p k s _ h last j) }
+    by_end_of false e =
+        let f = block_first password (body_at (content p) k) Us next ps r x body (form ∙ ap (λ z. block_of (body_at (content p) k) (cond z Etx Us) ++ next) e) reads in
+        let ne : k + 1 ≢ count_of (content p) = grind (arith, nat_tests) in
+        let more : k + 1 < count_of (content p) = omega (arith, ne, few) in
+        record { others = f.others; reads = f.reads; answered = subst (λ z. Answered table p k s z (items_of password f.others)) (sym f.items) (answered_more table p k s _ h more j) }
+
+pub take_over : (n : ℕ) (x y : List ℕ) → length x ≤ n → take n (x ++ y) ≡ x ++ take (n - length x) y
+take_over n x y h = let e : n ≡ length x + (n - length x) = omega arith in ap (λ k. take k (x ++ y)) e ∙ take-append-add x y (n - length x)
+
+-- n characters have room for the blocks of x from block k on, and for so many more
+abbrev pub HasRoom : List ℕ → ℕ → ℕ → ℕ → Type 0
+HasRoom x k n more = (length x - 250 * k) + 6 * (count_of x - k) + more ≤ n
+
+pub block_length : (b : List ℕ) (e : End) → length (block_of b e) ≡ length b + 6
+block_length b e = let k = length-append (stx ∷ b) (end_char e ∷ (written (sum_of ((stx ∷ b) ++ end_char e ∷ [])) ++ cr ∷ [])) in omega (arith, k)
+
+body_length : (x : List ℕ) (k : ℕ) → length (body_at x k) ≡ min 250 (length x - 250 * k)
+body_length x k = simp (length-take, length-drop) refl
+
+block_room : (x : List ℕ) (k n more : ℕ) → k < count_of x → HasRoom x k n more → (length (block_at x k) ≤ n) × HasRoom x (k + 1) (n - length (block_at x k)) more
+block_room x k n more h r =
+    let b = block_length (body_at x k) (cond (k + 1 == count_of x) Etx Us) in
+    let c = body_length x k in
+    (omega (arith, b, c, h, r), omega (arith, b, c, h, r))
+
+acks_push : (done : List Mark) → acks (done ++ AckMark ∷ []) ≡ acks done + 1
+acks_push done = sum_by-append (λ m. cond (is_ack m) 1 0) done (AckMark ∷ [])
+
+-- Every block is answered, and the answer to the last one decides: a page at block k, with j more behind it.
+abbrev NeverOpen : Option (List ℕ) → Directory → Page → List ℕ → List Mark → ℕ → ℕ → Type 0
+NeverOpen password table p r extra j k = (n : ℕ) → HasRoom (content p) k n 0 → k + suc j ≡ count_of (content p)
+    → (s : Course) (done marks : List Mark) (ps : List Piece) → acks done ≡ k → IsUndecided (count_of (content p)) (done ++ marks)
+    → s.joined ≡ take (250 * k) (content p) → Reads password AfterLogon ps r (take n (block_at (content p) k ++ said_after (content p) k marks))
+    → marks ≡ heard_from table s (items_of password ps) ++ extra → ⊥
+
+abbrev NeverBefore : Option (List ℕ) → Directory → Page → List ℕ → List Mark → ℕ → ℕ → Type 0
+NeverBefore password table p r extra zero k = Unit {0}
+NeverBefore password table p r extra (suc j) k = NeverOpen password table p r extra j k
+
+never_step : (password : Option (List ℕ)) (table : Directory) (p : Page) (r : List ℕ) (extra : List Mark) → IsPage p → (j k : ℕ) → NeverBefore password table p r extra j (k + 1) → NeverOpen password table p r extra j k
+never_step password table p r extra h j k before n room left s done marks ps ak undecided joined reads heard =
+    let b = block_room (content p) k n 0 (omega (arith, left)) room in
+    let t = taken_in password table p k s (take (n - length (block_at (content p) k)) (said_after (content p) k marks)) ps r _ h (omega (arith, left)) joined (take_over n (block_at (content p) k) (said_after (content p) k marks) b.0) reads in
+    by_answer j left before t.others t.answered b.1 t.reads
+  where
+    by_answer : (j : ℕ) → k + suc j ≡ count_of (content p) → NeverBefore password table p r extra j (k + 1) → (qs : List Piece) → Answered table p k s (items_of password ps) (items_of password qs)
+        → HasRoom (content p) (k + 1) (n - length (block_at (content p) k)) 0
+        → Reads password AfterLogon qs r (take (n - length (block_at (content p) k)) (said_after (content p) k marks)) → ⊥
+    by_answer j left again qs (accepted last t je a ia hm pm) left_room again_reads =
+        undecided done AckMark _ Sent (ap (λ z. done ++ z) (heard ∙ ap (λ z. z ++ extra) hm)) (omega (arith, ak, last), refl)
+    by_answer j left again qs (given_up last t je hm pm) left_room again_reads =
+        undecided done RsMark _ Abandoned (ap (λ z. done ++ z) (heard ∙ ap (λ z. z ++ extra) hm)) refl
+    by_answer zero left again qs (further more t je hm pm) left_room again_reads = omega (arith, left, more)
+    by_answer (suc i) left again qs (further more t je hm pm) left_room again_reads =
+        let e : marks ≡ AckMark ∷ (heard_from table t (items_of password qs) ++ extra) = heard ∙ ap (λ z. z ++ extra) hm in
+        again (n - length (block_at (content p) k)) left_room (omega (arith, left)) t (done ++ AckMark ∷ []) (heard_from table t (items_of password qs) ++ extra) qs (acks_push done ∙ ap (λ n. n + 1) ak)
+        (subst (λ z. IsUndecided (count_of (content p)) z) (ap (λ z. done ++ z) e ∙ sym (append_assoc done (AckMark ∷ []) _)) undecided) je
+        (subst (λ z. Reads password AfterLogon qs r (take (n - length (block_at (content p) k)) (said_after (content p) k z))) e again_reads) refl
+
+never_open : (password : Option (List ℕ)) (table : Directory) (p : Page) (r : List ℕ) (extra : List Mark) → IsPage p → (j k : ℕ) → NeverOpen password table p r extra j k
+never_open password table p r extra h zero k = never_step password table p r extra h zero k tt
+never_open password table p r extra h (suc j) k = never_step password table p r extra h (suc j) k (never_open password table p r extra h j (k + 1))
+
+-- A page was decided, and what follows is read from here on.
+record IsPassed (password : Option (List ℕ)) (table : Directory) (p : Page) (s : Course) (r more : List ℕ) (rest extra : List Mark) (after : ℕ) (ps : List Piece) (outcome : Outcome) : Type 0 where
+  others : List Piece
+  room : ℕ
+  enough : after ≤ room
+  reads : Reads password AfterLogon others r (take room more)
+  course : Course
+  joined : course.joined ≡ []
+  heard : rest ≡ heard_from table course (items_of password others) ++ extra
+  result : ((outcome ≡ Sent) × ((a : Accepted) × IsFor table p a × (accepted_from table s (items_of password ps) ≡ a ∷ accepted_from table course (items_of password others))))
+      ⊎ ((outcome ≡ Abandoned) × (accepted_from table s (items_of password ps) ≡ accepted_from table course (items_of password others)))
+
+abbrev Passes : Option (List ℕ) → Directory → Page → List ℕ → List ℕ → List Mark → List Mark → ℕ → Outcome → Mark → ℕ → ℕ → Type 0
+Passes password table p r more rest extra after outcome mark j k = (n : ℕ) → HasRoom (content p) k n after → k + suc j ≡ count_of (content p)
+    → (s : Course) (done since : List Mark) (ps : List Piece) → acks done ≡ k → IsUndecided (count_of (content p)) (done ++ since)
+    → Decides (count_of (content p)) (done ++ since) mark outcome
+    → s.joined ≡ take (250 * k) (content p) → Reads password AfterLogon ps r (take n (block_at (content p) k ++ (said_after (content p) k since ++ more)))
+    → since ++ mark ∷ rest ≡ heard_from table s (items_of password ps) ++ extra → IsPassed password table p s r more rest extra after ps outcome
+
+abbrev PassesBefore : Option (List ℕ) → Directory → Page → List ℕ → List ℕ → List Mark → List Mark → ℕ → Outcome → Mark → ℕ → ℕ → Type 0
+PassesBefore password table p r more rest extra after outcome mark zero k = Unit {0}
+PassesBefore password table p r more rest extra after outcome mark (suc j) k = Passes password table p r more rest extra after outcome mark j k
+
+head_is : (c d : Mark) (x y : List Mark) → c ∷ x ≡ d ∷ y → c ≡ d
+head_is c d x y e = cc
+
+tail_is : (c d : Mark) (x y : List Mark) → c ∷ x ≡ d ∷ y → x ≡ y
+tail_is c d x y e = cc
+
+-- the same where the first mark is known
+passes_step : (password : Option (List ℕ)) (table : Directory) (p : Page) (r more : List ℕ) (rest extra : List Mark) (after : ℕ) (outcome : Outcome) (mark : Mark) → IsPage p → (j k : ℕ)
+    → PassesBefore password table p r more rest extra after outcome mark j (k + 1) → Passes password table p r more rest extra after outcome mark j k
+passes_step password table p r more rest extra after outcome mark h j k before n room left s done since ps ak undecided decides joined reads heard =
+    let b = block_room (content p) k n after (omega (arith, left)) room in
+    let t = taken_in password table p k s (take (n - length (block_at (content p) k)) (said_after (content p) k since ++ more)) ps r _ h (omega (arith, left)) joined
+    (take_over n (block_at (content p) k) (said_after (content p) k since ++ more) b.0) reads in
+    by_answer j left before t.others t.answered b.1 since undecided decides heard t.reads
+  where
+    by_answer : (j : ℕ) → k + suc j ≡ count_of (content p) → PassesBefore password table p r more rest extra after outcome mark j (k + 1)
+        → (qs : List Piece) → Answered table p k s (items_of password ps) (items_of password qs) → HasRoom (content p) (k + 1) (n - length (block_at (content p) k)) after → (since : List Mark)
+        → IsUndecided (count_of (content p)) (done ++ since) → Decides (count_of (content p)) (done ++ since) mark outcome
+        → since ++ mark ∷ rest ≡ heard_from table s (items_of password ps) ++ extra
+        → Reads password AfterLogon qs r (take (n - length (block_at (content p) k)) (said_after (content p) k since ++ more)) → IsPassed password table p s r more rest extra after ps outcome
+    by_answer j left again qs (accepted last t je a ia hm pm) has [] undecided decides heard reads =
+        let e = heard ∙ ap (λ z. z ++ extra) hm in
+        let d = subst (λ m. Decides (count_of (content p)) (done ++ []) m outcome) (head_is _ _ _ _ e) decides in
+        record { others = qs; room = n - length (block_at (content p) k); enough = omega (arith, has); reads = reads; course = t; joined = je; heard = tail_is _ _ _ _ e; result = inl (d.1, (a, ia, pm)) }
+    by_answer j left again qs (accepted last t je a ia hm pm) has (c ∷ since) undecided decides heard reads =
+        let e = head_is c AckMark _ _ (heard ∙ ap (λ z. z ++ extra) hm) in
+        absurd (undecided done AckMark since Sent (ap (λ m. done ++ m ∷ since) e) (omega (arith, ak, last), refl))
+    by_answer j left again qs (given_up last t je hm pm) has [] undecided decides heard reads =
+        let e = heard ∙ ap (λ z. z ++ extra) hm in
+        let d = subst (λ m. Decides (count_of (content p)) (done ++ []) m outcome) (head_is _ _ _ _ e) decides in
+        record { others = qs; room = n - length (block_at (content p) k); enough = omega (arith, has); reads = reads; course = t; joined = je; heard = tail_is _ _ _ _ e; result = inr (d, pm) }
+    by_answer j left again qs (given_up last t je hm pm) has (c ∷ since) undecided decides heard reads =
+        let e = head_is c RsMark _ _ (heard ∙ ap (λ z. z ++ extra) hm) in
+        absurd (undecided done RsMark since Abandoned (ap (λ m. done ++ m ∷ since) e) refl)
+    by_answer j left again qs (further fewer t je hm pm) has [] undecided decides heard reads =
+        let d = subst (λ m. Decides (count_of (content p)) (done ++ []) m outcome) (head_is _ _ _ _ (heard ∙ ap (λ z. z ++ extra) hm)) decides in
+        let k1 = d.0 in let q = ap acks (append-nil done) in
+        absurd (omega (arith, k1, q, ak, fewer))
+    by_answer zero left again qs (further fewer t je hm pm) has (c ∷ since) undecided decides heard reads = absurd (omega (arith, left, fewer))
+    by_answer (suc i) left again qs (further fewer t je hm pm) has (c ∷ since) undecided decides heard reads =
+        let e = head_is c AckMark _ _ (heard ∙ ap (λ z. z ++ extra) hm) in
+        let f : done ++ c ∷ since ≡ (done ++ AckMark ∷ []) ++ since = ap (λ m. done ++ m ∷ since) e ∙ sym (append_assoc done (AckMark ∷ []) since) in
+        let u : IsUndecided (count_of (content p)) ((done ++ AckMark ∷ []) ++ since) = subst (λ z. IsUndecided (count_of (content p)) z) f undecided in
+        let d : Decides (count_of (content p)) ((done ++ AckMark ∷ []) ++ since) mark outcome = subst (λ z. Decides (count_of (content p)) z mark outcome) f decides in
+        let g : said_after (content p) k (c ∷ since) ++ more ≡ block_at (content p) (k + 1) ++ (said_after (content p) (k + 1) since ++ more) =
+        ap (λ m. said_after (content p) k (m ∷ since) ++ more) e ∙ append_assoc (block_at (content p) (k + 1)) (said_after (content p) (k + 1) since) more in
+        let m = again (n - length (block_at (content p) k)) has (omega (arith, left)) t (done ++ AckMark ∷ []) since qs (acks_push done ∙ ap (λ n. n + 1) ak) u d je
+        (subst (λ z. Reads password AfterLogon qs r (take (n - length (block_at (content p) k)) z)) g reads) (tail_is _ _ _ _ (heard ∙ ap (λ z. z ++ extra) hm)) in
+        record {
+          others = m.others;
+          room = m.room;
+          enough = m.enough;
+          reads = m.reads;
+          course = m.course;
+          joined = m.joined;
+          heard = m.heard;
+          result = from_there m.others m.course m.result;
+        }
+      where
+        from_there : (os : List Piece) (u : Course) → ((outcome ≡ Sent) × ((a : Accepted) × IsFor table p a × (accepted_from table t (items_of password qs) ≡ a ∷ accepted_from table u (items_of password os))))
+            ⊎ ((outcome ≡ Abandoned) × (accepted_from table t (items_of password qs) ≡ accepted_from table u (items_of password os)))
+            → ((outcome ≡ Sent) × ((a : Accepted) × IsFor table p a × (accepted_from table s (items_of password ps) ≡ a ∷ accepted_from table u (items_of password os))))
+            ⊎ ((outcome ≡ Abandoned) × (accepted_from table s (items_of password ps) ≡ accepted_from table u (items_of password os)))
+        from_there os u (inl (o, a)) = inl (o, (a.0, a.1, pm ∙ a.2))
+        from_there os u (inr (o, a)) = inr (o, pm ∙ a)
+
+passes : (password : Option (List ℕ)) (table : Directory) (p : Page) (r more : List ℕ) (rest extra : List Mark) (after : ℕ) (outcome : Outcome) (mark : Mark) → IsPage p → (j k : ℕ) → Passes password table p r more rest extra after outcome mark j k
+passes password table p r more rest extra after outcome mark h zero k = passes_step password table p r more rest extra after outcome mark h zero k tt
+passes password table p r more rest extra after outcome mark h (suc j) k = passes_step password table p r more rest extra after outcome mark h (suc j) k (passes password table p r more rest extra after outcome mark h j (k + 1))
+
+none_sent : (outcome : Outcome) → outcome ≢ Sent → (pages : List Page) → sent_of pages (all_are outcome pages) ≡ []
+none_sent outcome ne [] = refl
+none_sent Sent ne (p ∷ pages) = absurd (ne refl)
+none_sent Abandoned ne (p ∷ pages) = none_sent Abandoned ne pages
+none_sent TriesSpent ne (p ∷ pages) = none_sent TriesSpent ne pages
+none_sent Disconnected ne (p ∷ pages) = none_sent Disconnected ne pages
+none_sent NoLogon ne (p ∷ pages) = none_sent NoLogon ne pages
+
+some_block : (p : Page) → IsPage p → 0 + suc (count_of (content p) - 1) ≡ count_of (content p)
+some_block p h = let n = content_some p h in omega (arith, n)
+
+page_room : (p : Page) (n pages : ℕ) → IsPage p → 836 * suc pages + 2 ≤ n → HasRoom (content p) 0 n 0 × HasRoom (content p) 0 n (836 * pages + 2)
+page_room p n pages h room = let c = content_length p h in (omega (arith, c, room), omega (arith, c, room))
+
+-- only EOT CR is said
+leaves : (password : Option (List ℕ)) (table : Directory) (s : Course) (ps : List Piece) (r t : List ℕ) (n : ℕ) → 2 ≤ n → t ≡ good_bye → Reads password AfterLogon ps r (take n t) → accepted_from table s (items_of password ps) ≡ []
+leaves password table s ps r t n room e reads = let g = goes_first password AfterLogon bye [] ps r (take n t) (ap (take n) e ∙ take_all n good_bye room) tt reads in ap (λ z. accepted_from table s (items_of password z)) g.form
+
+-- Both logged on: the pages that are marked sent are those accepted.
+pub sends_joined : (password : Option (List ℕ)) (table : Directory) (pages : List Page) → AllByRecursion IsPage pages
+    → (marks : List Mark) (outcomes : List Outcome) (t r : List ℕ) (s : Course) (ps : List Piece) (n : ℕ) (extra : List Mark) → 836 * length pages + 2 ≤ n → Sends pages marks outcomes t → s.joined ≡ []
+    → Reads password AfterLogon ps r (take n t) → marks ≡ heard_from table s (items_of password ps) ++ extra
+    → AreFor table (sent_of pages outcomes) (accepted_from table s (items_of password ps))
+sends_joined password table [] h marks outcomes t r s ps n extra room sends joined reads heard =
+    subst (λ z. AreFor table [] z) (sym (leaves password table s ps r t n room sends.1 reads)) tt
+sends_joined password table (p ∷ pages) h marks outcomes t r s ps n extra room (inl o) joined reads heard =
+    absurd (never_open password table p r extra h.0 (count_of (content p) - 1) 0 n (page_room p n (length pages) h.0 room).0 (some_block p h.0) s [] marks ps refl o.undecided joined
+    (subst (λ z. Reads password AfterLogon ps r (take n z)) o.said_is reads) heard)
+sends_joined password table (p ∷ pages) h marks outcomes t r s ps n extra room (inr d) joined reads heard =
+    let m = passes password table p r d.more d.rest extra (836 * length pages + 2) d.outcome d.mark h.0 (count_of (content p) - 1) 0 n (page_room p n (length pages) h.0 room).1 (some_block p h.0) s [] d.since ps refl d.undecided d.decides joined
+    (subst (λ z. Reads password AfterLogon ps r (take n z)) (d.said_is ∙ append_assoc (block_at (content p) 0) (said_after (content p) 0 d.since) d.more) reads) (sym d.marks_are ∙ heard) in
+    by_result m.course m.others m.result (λ sends. sends_joined password table pages h.1 d.rest d.others d.more r m.course m.others m.room extra m.enough sends m.joined m.reads m.heard)
+  where
+    by_result : (u : Course) (os : List Piece) → ((d.outcome ≡ Sent) × ((a : Accepted) × IsFor table p a × (accepted_from table s (items_of password ps) ≡ a ∷ accepted_from table u (items_of password os))))
+        ⊎ ((d.outcome ≡ Abandoned) × (accepted_from table s (items_of password ps) ≡ accepted_from table u (items_of password os)))
+        → (Sends pages d.rest d.others d.more → AreFor table (sent_of pages d.others) (accepted_from table u (items_of password os)))
+        → AreFor table (sent_of (p ∷ pages) outcomes) (accepted_from table s (items_of password ps))
+    by_result u os (inl (e, a)) again =
+        let f : Sends pages d.rest d.others d.more = subst (λ o. Follows o pages (λ os more. Sends pages d.rest os more) d.others d.more) e d.follows in
+        let q : outcomes ≡ Sent ∷ d.others = d.outcomes_are ∙ ap (λ o. o ∷ d.others) e in
+        subst (λ z. AreFor table (sent_of (p ∷ pages) z) (accepted_from table s (items_of password ps))) (sym q)
+        (subst (λ z. AreFor table (p ∷ sent_of pages d.others) z) (sym a.2) (a.1, again f))
+    by_result u os (inr (e, a)) again =
+        let f : Sends pages d.rest d.others d.more = subst (λ o. Follows o pages (λ os more. Sends pages d.rest os more) d.others d.more) e d.follows in
+        let q : outcomes ≡ Abandoned ∷ d.others = d.outcomes_are ∙ ap (λ o. o ∷ d.others) e in
+        subst (λ z. AreFor table (sent_of (p ∷ pages) z) (accepted_from table s (items_of password ps))) (sym q)
+        (subst (λ z. AreFor table (sent_of pages d.others) z) (sym a) (again f))

@@ -1,0 +1,10 @@
+pub mod BothEnds
+pub mod JoinedContents
+pub mod JoinedLimit
+pub mod JoinedLogons
+pub mod JoinedPages
+pub mod JoinedPieces
+pub mod JoinedReplies
+pub mod JoinedSaid
+pub mod JoinedSessions
+pub mod ShortReplies

@@ -1,0 +1,35 @@
+-- What is printed of a front of bits is a front of what is printed of all.
+use Rattle.std.proofs.Common.{ℕ, ◌+◌, Bool, List, ◌∙◌, ap}
+use Rattle.std.specs.Prelude.{map}
+use Rattle.std.proofs.lemmas.Grind.{flat_map-append}
+use Rattle.wires.specs.Fronts.{Grows}
+use Rattle.receiver.specs.Heard.{heard, with_text}
+use Rattle.receiver.specs.Listeners.{Listener, is_one_of}
+use Rattle.receiver.specs.Receivers.{has_in, is_paired}
+use Rattle.receiver.specs.Shown.{shown}
+use Rattle.receiver.specs.Slots.{entries}
+use Rattle.receiver.proofs.Growing.{entries-grow, shown-grow}
+use Rattle.listening.proofs.Tables.{entry_lines-append}
+use Rattle.listening.specs.PageLines.{alone_from, group_lines, lines_heard, play_lines, shown_line, shown_lines}
+use Rattle.listening.specs.Table.{batches_in, entry_lines, table_of}
+
+-- what receivers print of bits begins with what they print of each front of them
+pub lines_heard-grow : (listens : ℕ → Bool) (has : ℕ → ℕ → Bool) → Grows (lines_heard listens has)
+lines_heard-grow listens has bits more =
+    let h = shown-grow listens has bits more in
+    record {
+      rest = shown_lines h.rest;
+      is = ap shown_lines h.is ∙ flat_map-append shown_line (shown has (map with_text (heard listens bits))) h.rest;
+    }
+
+pub group_lines-grow : (group : Listener) → Grows (group_lines group)
+group_lines-grow group = lines_heard-grow (is_one_of group.capcodes) (has_in group.holders)
+
+pub play_lines-grow : (capcodes : List ℕ) → Grows (play_lines capcodes)
+play_lines-grow capcodes = lines_heard-grow (is_one_of capcodes) (is_paired (alone_from 1 capcodes))
+
+-- and so does `show`
+pub table_of-grow : Grows table_of
+table_of-grow bits more =
+    let h = entries-grow bits more in
+    record { rest = entry_lines (0 + batches_in (entries bits)) h.rest; is = ap (entry_lines 0) h.is ∙ entry_lines-append 0 (entries bits) h.rest }

@@ -1,0 +1,5 @@
+pub mod HeardFile
+pub mod Listening
+pub mod Noise
+pub mod PageLines
+pub mod Table

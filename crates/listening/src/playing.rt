@@ -1,0 +1,124 @@
+//! The commands `play` and `show`: what is heard in bits, as pages and as a table.
+
+ghost use Rattle.std.specs.Prelude.{◌≡◌, ◌≤◌, ◌++◌, [], IfOk, length};
+ghost use Rattle.page_text.specs.Line.{line_of};
+ghost use Rattle.receiver.specs.Listeners.{StandsFor};
+ghost use Rattle.receiver.specs.Receivers.{has_in, numbers_with};
+ghost use Rattle.listening.specs.Listening.{Listens, OutWell};
+ghost use Rattle.listening.specs.PageLines.{group_lines, lines_for, number_text, play_lines};
+ghost use Rattle.wires.specs.Written.{Puts};
+ghost use Rattle.listening.specs.Table.{table_of};
+
+use crate::listening::{Listener, listen};
+use crate::table::Table;
+use codeword::Capcode;
+use endings::statuses::Status;
+use page_text::line;
+use receiver::{Group, Ready};
+use std::alloc::Global;
+use wires::piece::Piece;
+use wires::sink::Sink;
+use wires::source::BitSource;
+use wires::steps::{Steps, Work};
+use wires::{Failed, Memory};
+
+/// The most bytes that the text of a page has.
+const LONGEST_TEXT: usize = 700;
+
+/// The most receivers of a group.
+const MOST_RECEIVERS: u32 = 64;
+
+impl Listener for Group {
+    ghost printed = { λ g. group_lines g };
+
+    ghost fed = { λ g bits. StandsFor g bits };
+
+    fn hear<O: Sink>(&mut self, piece: &mut Piece, out: &mut O) -> Result<(), Failed> {
+        let mut steps = Steps::<Work>::new();
+        let Some(page) = self.feed_piece(piece, &mut steps) else {
+            return Ok(());
+        };
+        let mut text = [0; LONGEST_TEXT];
+        let length = self.text(&mut text);
+        show_page(self, &page, &text[..length], out)
+    }
+}
+
+/// Puts the line of a page for each receiver of the group that has its capcode.
+fn show_page<O: Sink>(group: &Group, page: &Ready, text: &[u8], out: &mut O) -> Result<(), Failed>
+    requires { length text.now ≤ 700 }
+    ensures { Puts (O.state out.old) (O.state out.new) (lines_for page.now.capcode page.now.function text.now (numbers_with (has_in group.now.holders) page.now.capcode)) result }
+{
+    for k in 0..MOST_RECEIVERS {
+        let Some(number) = group.holder(page.capcode, k) else {
+            return Ok(());
+        };
+        if let Err(Failed) = show_line(number, page, text, out) {
+            return Err(Failed);
+        }
+    }
+    Ok(())
+}
+
+/// Puts the line of a page for the receiver of this number.
+fn show_line<O: Sink>(number: u32, page: &Ready, text: &[u8], out: &mut O) -> Result<(), Failed>
+    requires { length text.now ≤ 700 }
+    ensures { Puts (O.state out.old) (O.state out.new) (number_text number ++ line_of page.now.capcode page.now.function text.now) result }
+{
+    if let Err(Failed) = out.put(&number_digits(number)) {
+        return Err(Failed);
+    }
+    line(page.capcode, page.function, text, out)
+}
+
+/// A receiver's number in two digits, and a space.
+fn number_digits(number: u32) -> [u8; 3]
+    ensures { result ≡ number_text number }
+{
+    [
+        b'0' + (number / 10 % 10) as u8,
+        b'0' + (number % 10) as u8,
+        b' ',
+    ]
+}
+
+/// A group in which each of these capcodes is that of a receiver, numbered from 1 in their order.
+pub fn group_of(alloc: Global, capcodes: &[Capcode]) -> Result<Group, Memory>
+    requires few { length capcodes.now ≤ 64 }
+    ensures prints { IfOk result (λ g. group_lines g ≡ play_lines capcodes.now) }
+    ensures stands { IfOk result (λ g. StandsFor g []) }
+{
+    let mut pairs = Vec::new(alloc);
+    let mut number = 1;
+    for capcode in capcodes {
+        let Ok(()) = pairs.push((number, *capcode)) else {
+            return Err(Memory);
+        };
+        number += 1;
+    }
+    Group::new(alloc, &pairs)
+}
+
+/// Plays receivers over bits: puts the printed line of each page that the group hears, as it is complete, once for each receiver that has
+/// its capcode, in the order of their numbers. The group was fed no bit.
+/// At most the bits of 67,108,864 bytes are heard.
+///
+/// The answer is Done where all bits were heard; TooLong exactly where so many were and another bit follows; FileFault where a read
+/// failed; OutFault where a write failed, which doesn't happen over a steady output with room for the lines of all bits. At both faults a
+/// front of these lines was put.
+pub fn play<B: BitSource, O: Sink>(bits: &mut B, group: &mut Group, out: &mut O) -> Status
+    requires { StandsFor group.old [] }
+    ensures listens { Listens (group_lines group.old) (B.state bits.old) (B.state bits.new) (O.state out.old) (O.state out.new) result }
+    ensures out_well { OutWell (group_lines group.old) (B.state bits.old) (O.state out.old) (O.state out.new) result }
+{
+    listen(bits, group, out)
+}
+
+/// Puts the table of what is heard in bits: a line for each sync word that was found or is good at its place, and for each slot. A
+/// word that isn't whole has no line. The answers are those of `play`.
+pub fn show<B: BitSource, O: Sink>(bits: &mut B, out: &mut O) -> Status
+    ensures listens { Listens table_of (B.state bits.old) (B.state bits.new) (O.state out.old) (O.state out.new) result }
+    ensures out_well { OutWell table_of (B.state bits.old) (O.state out.old) (O.state out.new) result }
+{
+    listen(bits, &mut Table::new(), out)
+}

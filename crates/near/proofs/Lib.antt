@@ -1,0 +1,4 @@
+pub mod NearAir
+pub mod NearPages
+pub mod NearStretches
+pub mod NearWords

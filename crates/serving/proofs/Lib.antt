@@ -1,0 +1,13 @@
+pub mod Answered
+pub mod Appended
+pub mod Connections
+pub mod Decisions
+pub mod FewBits
+pub mod InTurn
+pub mod LeftPool
+pub mod Servings
+pub mod Steps
+pub mod Stops
+pub mod Trials
+pub mod TriedWell
+pub mod WholeSessions

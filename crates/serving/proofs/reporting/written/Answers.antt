@@ -1,0 +1,13 @@
+use Rattle.std.proofs.Common.{List, ◌∷◌, [], ◌++◌, ◌∙◌, ap, codes, decimal}
+use Rattle.serving.specs.ReportLine.{counted_all, end_word, report_line}
+use Rattle.serving.proofs.reporting.written.Goals as goal
+
+pub returns-clause-line : goal.returns-clause-line
+unfolding report_line
+returns-clause-line c =
+    let first = c.push.ensures.items ∙ ap (λ (l : List _). l ++ codes "session ") c.new-line.ensures in
+    let number = c.push_number.ensures.items ∙ ap (λ (l : List _). l ++ decimal c.args.number) first in
+    let space = c.push-2.ensures.items ∙ ap (λ (l : List _). l ++ codes " ") number in
+    let word = c.push-3.ensures.items ∙ (ap (λ (w : List _). c.push-2.new.line.items ++ w) c.word.ensures.word ∙ ap (λ (l : List _). l ++ end_word c.args.end) space) in
+    let counts = c.push_counts.ensures.items ∙ ap (λ (l : List _). l ++ counted_all c.args.report) word in
+    c.push-4.ensures.items ∙ ap (λ (l : List _). l ++ 10 ∷ []) counts

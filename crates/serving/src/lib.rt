@@ -1,0 +1,24 @@
+//! The station: sessions of the entry line over connections, the transmissions of the pages that they accept, and trials.
+//!
+//! - `session`: the station, and one session of it.
+//! - `serving`: the connections of the station, one after another.
+//! - `reporting`: the report line of a session.
+//! - `answering`: the session of an input, without a connection.
+//! - `trial`: what receivers hear of the pages of such a session, through a noise.
+#![tactic(auto)]
+
+mod answering;
+#[cfg(test)]
+mod report_tests;
+mod reporting;
+mod serving;
+#[cfg(test)]
+mod serving_tests;
+pub mod session;
+#[cfg(test)]
+mod session_tests;
+pub mod trial;
+#[cfg(test)]
+mod trial_tests;
+
+pub use session::{SessionEnd, Station};
