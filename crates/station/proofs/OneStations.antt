@@ -1,5 +1,5 @@
 -- What `station` comes to where no call fails.
-use Rattle.std.proofs.Common.{◌≡◌, ◌≢◌, ℕ, ◌*◌, ◌≤◌, ◌⊎◌, inl, inr, Bool, true, false, List, length, Ok, Err, IsTrue, refl, sym, ◌∙◌, ap, subst, arith}
+use Rattle.std.proofs.Common.{◌≡◌, ◌≢◌, ℕ, ◌*◌, ◌≤◌, ◌⊎◌, inl, inr, List, length, Ok, Err, IsTrue, refl, sym, ◌∙◌, ap, subst, arith}
 use Rattle.subscribers.specs.Parts.{Parts}
 use Rattle.subscribers.specs.Settings.{settings_of}
 use Rattle.subscribers.specs.declared.faults.SettingsFault.{SettingsFault}
@@ -106,7 +106,7 @@ files_alike : (settings address air : List ℕ) (count : ℕ) (old new other : A
     → (k : IsServed settings address air count old other another) → other.shelf.file air ≡ new.shelf.file air → (name : List ℕ)
     → (other.shelf.there name ≡ new.shelf.there name) × (other.shelf.file name ≡ new.shelf.file name)
 files_alike settings address air count old new other outcome another h k sent name = elim (same_or_other air name) [
-  | inl e ↦ subst (λ (n : List ℕ). (other.shelf.there n ≡ new.shelf.there n) × (other.shelf.file n ≡ new.shelf.file n)) e (both_there (other.shelf.there air) (new.shelf.there air) (k.done.file.there k.tells) (h.done.file.there h.tells), sent)
+  | inl e ↦ subst (λ (n : List ℕ). (other.shelf.there n ≡ new.shelf.there n) × (other.shelf.file n ≡ new.shelf.file n)) e (k.done.file.there k.tells ∙ sym (h.done.file.there h.tells), sent)
   | inr n ↦ (
       let a = h.done.file.others name (λ e. n (sym e)) in
       let b = k.done.file.others name (λ e. n (sym e)) in
@@ -114,11 +114,6 @@ files_alike settings address air count old new other outcome another h k sent na
       (b.there ∙ (ap (λ (x : OtherFiles). x.there name) e ∙ sym a.there), b.file ∙ (ap (λ (x : OtherFiles). x.file name) e ∙ sym a.file))
       )
 ]
-  where
-    both_there : (x y : Bool) → IsTrue x → IsTrue y → x ≡ y
-    both_there true true p q = refl
-    both_there true false p q = elim q [ ]
-    both_there false y p q = elim p [ ]
 
 -- two that were served
 both_served : (settings address air : List ℕ) (count : ℕ) (old new other : Objects) (outcome another : Outcome) → FitStation settings air count (around old) → IsServed settings address air count (around old) (around new) outcome
