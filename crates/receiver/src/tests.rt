@@ -144,7 +144,16 @@ fn hear_alone(
     Ok(heard)
 }
 
-/// What a receiver answers to these bits, of which so many make a piece.
+/// At most 32 bits as a piece.
+fn piece_of(bits: &[bool]) -> Piece {
+    let mut word = 0u32;
+    for bit in bits {
+        word = (word << 1) | u32::from(*bit);
+    }
+    Piece::of(word, bits.len().min(32) as u32)
+}
+
+/// What a receiver answers to these bits, of which so many make a piece. Each bit of a piece may complete a page.
 fn hear_in_pieces(
     alloc: Global,
     capcode: Capcode,
@@ -154,21 +163,19 @@ fn hear_in_pieces(
     let mut receiver = Receiver::new(&[capcode]);
     let mut heard = Vec::new(alloc);
     let mut text = [0; 700];
-    let mut at = 0;
-    for chunk in bits.chunks(size) {
-        let mut word = 0u32;
-        for bit in chunk {
-            word = (word << 1) | u32::from(*bit);
-        }
-        at += chunk.len();
-        let mut piece = Piece::of(word, chunk.len() as u32);
-        while let Some(ready) = receiver.feed_piece(&mut piece) {
-            let length = receiver.text(&mut text);
-            heard.push(HeardPage {
-                end: at - piece.len() as usize,
-                ready,
-                text: text[..length].to_vec(alloc)?,
-            })?;
+    let mut at = 0usize;
+    for chunk in bits.chunks(size.max(1)) {
+        let mut piece = piece_of(chunk);
+        at = at.wrapping_add(chunk.len());
+        for _ in 0..chunk.len() {
+            if let Some(ready) = receiver.feed_piece(&mut piece) {
+                let length = receiver.text(&mut text);
+                heard.push(HeardPage {
+                    end: at.wrapping_sub(piece.len() as usize),
+                    ready,
+                    text: text[..length].to_vec(alloc)?,
+                })?;
+            }
         }
     }
     Ok(heard)
