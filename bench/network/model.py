@@ -296,11 +296,21 @@ def is_sync(word):
     return (word ^ SYNC).bit_count() <= 2
 
 
+def hunted(bits, at):
+    """The place behind the first sync word of a hunt that begins at this place, or none."""
+    word = 0
+    for place in range(at, len(bits)):
+        word = (word << 1 | bits[place]) & 0xFFFFFFFF
+        if place - at >= 31 and is_sync(word):
+            return place + 1
+    return None
+
+
 def stretches(bits):
     """For each lock the words of its batches, each batch the list of its slots, and the place of the first bit behind each word."""
     found, at = [], 0
     while at is not None:
-        lock = next((k for k in range(at + 32, len(bits) + 1) if is_sync(number_of(bits[k - 32 : k]))), None)
+        lock = hunted(bits, at)
         at = None
         if lock is None:
             break
