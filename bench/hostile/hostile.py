@@ -1,5 +1,5 @@
 """Hostile connections beside honest ones, against the built `station` over loopback. `run.sh` in this folder starts it:
-hostile.py PROGRAM FOLDER SEED CONNECTIONS. It stops by itself, at the latest after LIMIT seconds."""
+hostile.py PROGRAM FOLDER SEED CONNECTIONS SECONDS. It stops by itself, at the latest after so many seconds."""
 
 import collections
 import dataclasses
@@ -17,7 +17,6 @@ import time
 sys.path.insert(0, str(pathlib.Path(__file__).resolve().parent.parent / "network"))
 import model
 
-LIMIT = 1500
 PATIENCE = 60  # seconds for one connection
 A_RUN = 1000  # connections of one run of the station, the most that it serves
 GROWTH = 64  # kB by which the resident set may grow within a run
@@ -44,6 +43,9 @@ class Client:
     is_deaf: bool = False
     # So many of its bytes were certainly heard, where it is reset.
     least: int = 0
+
+    def without_end(self):
+        return "lost" if self.is_reset else "hung-up"
 
 
 class Maker:
@@ -120,8 +122,8 @@ class Maker:
         return Client("bytes after the goodbye", b"".join(parts) + self.random.randbytes(self.random.choice([1, 100, 20000])))
 
     def million(self, which):
-        """About a million characters, of kinds one after another."""
-        size = self.random.choice([999_999, 1_000_000, 1_000_001, 1_100_000])
+        """About a million characters, of kinds one after another. Half of these clients say a million exactly."""
+        size = 1_000_000 if which % 2 else self.random.choice([999_999, 1_000_001, 1_100_000])
         on = b"\r" + self.logon()
         block = model.page_blocks(b"8", b"")[0]
         fronts = [b"", b"", on, on + b"\x02", on]
@@ -141,6 +143,10 @@ class Maker:
             yield pair
 
 
+def brief(said):
+    return repr(said) if len(said) <= 800 else f"{len(said)} bytes, {said[:200]!r} .. {said[-50:]!r}"
+
+
 def fail(text):
     raise SystemExit(f"FAILED: {text}")
 
@@ -153,7 +159,8 @@ def talk(client, line):
     def step(said):
         """A piece further, or some replies. Says how many bytes were said."""
         nonlocal is_open
-        readable, writable, _ = select.select([] if client.is_deaf else [line], [line] if said else [], [], 0.3 if client.is_deaf else PATIENCE)
+        ears, patience = ([], 0.3) if client.is_deaf else ([line], PATIENCE)
+        readable, writable, _ = select.select(ears, [line] if said else [], [], patience)
         if client.is_deaf and not writable:
             is_open = False
         if not readable and not writable and not client.is_deaf or time.monotonic() > until:
@@ -233,7 +240,7 @@ class Run:
         answers, pages, counts = self.session(client.said)
         wanted = model.replies(answers)
         if heard != wanted if is_whole else not wanted.startswith(heard):
-            fail(f"{client.kind}: said {client.said[:2000]!r}, replied {heard[:2000]!r}, the model {wanted[:2000]!r}")
+            fail(f"{client.kind}: said {brief(client.said)}, replied {brief(heard)}, the model {brief(wanted)}")
         if client.kind.startswith("honest") and (not is_whole or not pages or answers[-1] != "END"):
             fail(f"{client.kind}: no whole session: {answers}")
 
@@ -264,7 +271,7 @@ class Run:
             fronts = range(len(client.said), client.least - 1, -1) if not client.is_deaf else [0]
         for size in fronts:
             answers, pages, counts = self.session(client.said[:size])
-            if line == model.report_line(number, answers, counts, "lost" if client.is_reset else "hung-up"):
+            if line == model.report_line(number, answers, counts, client.without_end()):
                 return pages
         return None
 
@@ -276,7 +283,9 @@ class Run:
         for number, (client, line) in enumerate(zip(self.made, lines, strict=True), 1):
             pages = self.allowed(number, client, line)
             if pages is None:
-                fail(f"{client.kind}: said {client.said[:2000]!r}, the line is {line!r}, the model's {model.report_line(number, *self.session(client.said)[::2])!r}")
+                answers, _, counts = self.session(client.said)
+                wanted = model.report_line(number, answers, counts, client.without_end())
+                fail(f"{client.kind}: said {brief(client.said)}, the line is {line!r}, the model's {wanted!r}")
             sent = model.bytes_of(model.transmission(pages))
             self.compare(number, client, len(air), sent)
             air += sent
@@ -294,12 +303,12 @@ class Run:
 
 
 def late(*_):
-    fail(f"not done after {LIMIT} seconds")
+    fail("not done in time")
 
 
-def main(program, folder, seed, connections):
+def main(program, folder, seed, connections, limit):
     signal.signal(signal.SIGALRM, late)
-    signal.alarm(LIMIT)
+    signal.alarm(int(limit))
     start, left, number, kinds, all_pages = time.monotonic(), int(connections) // 2 * 2, 0, collections.Counter(), 0
     print(f"seed {seed}", flush=True)
     while left:
@@ -312,7 +321,8 @@ def main(program, folder, seed, connections):
             run.process.kill()
             run.process.wait()
         pages, size = run.check()
-        print(f"run {number}: {count} connections, {pages} pages, {size} bytes of AIR, resident {run.first} kB at the start, {run.last} kB at the end", flush=True)
+        resident = f"resident {run.first} kB at the start, {run.last} kB at the end"
+        print(f"run {number}: {count} connections, {pages} pages, {size} bytes of AIR, {resident}", flush=True)
         left, all_pages, kinds = max(0, left - count), all_pages + pages, kinds + run.kinds
     for kind, count in sorted(kinds.items()):
         print(f"{count:6} {kind}")

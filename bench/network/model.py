@@ -301,7 +301,7 @@ def hunted(bits, at):
     word = 0
     for place in range(at, len(bits)):
         word = (word << 1 | bits[place]) & 0xFFFFFFFF
-        if place - at >= 31 and is_sync(word):
+        if (word ^ SYNC).bit_count() <= 2 and place - at >= 31:
             return place + 1
     return None
 
@@ -331,8 +331,13 @@ def stretches(bits):
 
 def heard(bits, capcodes):
     """The pages that receivers of these capcodes hear, as they are complete."""
+    return heard_in(stretches(bits), capcodes)
+
+
+def heard_in(found, capcodes):
+    """The same of the stretches of lock of the bits."""
     pages = []
-    for batches in stretches(bits):
+    for batches in found:
         fixed = [(fix(word), place) for batch in batches for word, place in batch]
         for p, (word, _) in enumerate(fixed):
             if word is None or word >> 31:
@@ -360,8 +365,13 @@ def page_lines(pages, capcodes):
 
 def table(bits):
     """The lines of `show`."""
+    return table_of(stretches(bits))
+
+
+def table_of(found):
+    """The same of the stretches of lock of the bits."""
     lines, count = "", 0
-    for batches in stretches(bits):
+    for batches in found:
         for batch in batches:
             count += 1
             lines += f"batch {count}\n"

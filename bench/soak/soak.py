@@ -1,5 +1,5 @@
 """A soak of receivers: `play` and `show` of the built program over random files, beside the plain model of `bench/network`. `run.sh` in
-this folder starts it: soak.py PROGRAM FOLDER SEED FILES. It stops by itself, at the latest after LIMIT seconds."""
+this folder starts it: soak.py PROGRAM FOLDER SEED FILES SECONDS. It stops by itself, at the latest after so many seconds."""
 
 import collections
 import pathlib
@@ -12,7 +12,6 @@ import time
 sys.path.insert(0, str(pathlib.Path(__file__).resolve().parent.parent / "network"))
 import model
 
-LIMIT = 1500
 PATIENCE = 60  # seconds for one file
 AT_ONCE = 8  # files that are played at once
 BASES = [0, 8, 1000, 2007656, 2007672, 2045048, 2045064, 2097136]
@@ -48,7 +47,8 @@ class Maker:
         """A codeword that means something to these receivers, or nearly so."""
         address = model.address(self.random.choice(self.capcodes), self.random.randrange(4))
         message = model.message(self.random.randrange(1 << 20))
-        return self.random.choice([address, address, message, message, message, model.IDLE, model.SYNC, model.codeword(self.random.randrange(1 << 21))])
+        other = model.codeword(self.random.randrange(1 << 21))
+        return self.random.choice([address, address, message, message, message, model.IDLE, model.SYNC, other])
 
     def random_bits(self, size):
         return [self.random.getrandbits(1) for _ in range(size)]
@@ -148,14 +148,16 @@ class File:
 
     def check(self):
         """Compares, and gives the two outputs."""
-        pages = model.heard(self.bits, self.maker.capcodes)
-        wanted = [model.page_lines(pages, self.maker.capcodes), model.table(self.bits)]
+        found = model.stretches(self.bits)
+        pages = model.heard_in(found, self.maker.capcodes)
+        wanted = [model.page_lines(pages, self.maker.capcodes), model.table_of(found)]
         for name, run, lines in zip(("play", "show"), self.runs, wanted):
             got = run.communicate(timeout=PATIENCE)[0].decode()
             if (run.returncode, got) != (0, lines):
                 pairs = zip([*got.splitlines(), "its end"], [*lines.splitlines(), "its end"])
                 at, (first, second) = next((k, pair) for k, pair in enumerate(pairs, 1) if pair[0] != pair[1] or pair[0] == "its end")
-                raise SystemExit(f"FAILED: file {self.number}, {self.kind}: {name} ends with {run.returncode}; line {at} is {first!r}, the model's {second!r}")
+                ends = f"file {self.number}, {self.kind}: {name} ends with {run.returncode}"
+                raise SystemExit(f"FAILED: {ends}; line {at} is {first!r}, the model's {second!r}")
         return wanted
 
     def stop(self):
@@ -165,12 +167,12 @@ class File:
 
 
 def late(*_):
-    raise SystemExit(f"FAILED: not done after {LIMIT} seconds")
+    raise SystemExit("FAILED: not done in time")
 
 
-def main(program, folder, seed, files):
+def main(program, folder, seed, files, limit):
     signal.signal(signal.SIGALRM, late)
-    signal.alarm(LIMIT)
+    signal.alarm(int(limit))
     start, counts = time.monotonic(), {kind: collections.Counter() for kind in KINDS}
     print(f"seed {seed}", flush=True)
     for first in range(1, int(files) + 1, AT_ONCE):
@@ -180,7 +182,8 @@ def main(program, folder, seed, files):
                 played.append(File(program, pathlib.Path(folder), seed, number))
             for file in played:
                 pages, table = file.check()
-                seen = {"files": 1, "bytes": len(file.bits) // 8, "batches": table.count("batch"), "slots": table.count("\n") - table.count("batch")}
+                batches = table.count("batch")
+                seen = {"files": 1, "bytes": len(file.bits) // 8, "batches": batches, "slots": table.count("\n") - batches}
                 counts[file.kind].update(seen, bad=table.count("bad"), pages=pages.count("\n"))
         finally:
             for file in played:
