@@ -157,7 +157,7 @@ def talk(client, line):
     line.setblocking(False)
 
     def step(said):
-        """A piece further, or some replies. Says how many bytes were said."""
+        """Says a piece or hears some replies, and gives how many bytes were said. A deaf client stops once the line takes no more."""
         nonlocal is_open
         ears, patience = ([], 0.3) if client.is_deaf else ([line], PATIENCE)
         readable, writable, _ = select.select(ears, [line] if said else [], [], patience)
@@ -174,8 +174,9 @@ def talk(client, line):
     try:
         wanted = 0
         for part in client.turns or []:
-            replies = {b"\r": 3, b"\x04\r": 3}.get(part, 6 if part[:1] == b"\x1b" else 2)
-            wanted, end = wanted + replies, at + len(part)
+            # ID= to an empty line, End to a goodbye, Go to a logon, and Ack, Nak or Rs to a block.
+            reply = {b"\r": 3, b"\x04\r": 3}.get(part, 6 if part[:1] == b"\x1b" else 2)
+            wanted, end = wanted + reply, at + len(part)
             while is_open and (at < end or len(heard) < wanted):
                 at += step(client.said[at:end])
         said = memoryview(client.said)

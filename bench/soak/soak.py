@@ -188,6 +188,8 @@ def main(program, folder, seed, files, limit):
         finally:
             for file in played:
                 file.stop()
+        if file.number % 1000 == 0:
+            print(f"{file.number} files, {time.monotonic() - start:.0f} s", flush=True)
     for kind, count in counts.items():
         print(f"{kind}: " + ", ".join(f"{count[name]} {name}" for name in ("files", "bytes", "batches", "slots", "bad", "pages")))
     print(f"{files} files, {time.monotonic() - start:.0f} s: play and show say what the model says")
