@@ -125,12 +125,12 @@ def spelled(value):
 
 def lines_before_logon(characters, password):
     """What each line is, up to the logon, and the characters behind it."""
-    items, line = [], b""
+    items, line = [], bytearray()
     for at, c in enumerate(characters):
         if c == 0x0A:
             continue
         if c != 0x0D:
-            line += bytes([c])
+            line.append(c)
             continue
         if line == b"":
             items.append("empty")
@@ -138,7 +138,7 @@ def lines_before_logon(characters, password):
             return items + ["logon"], characters[at + 1 :]
         else:
             items.append("wrong")
-        line = b""
+        line.clear()
     return items, b""
 
 
@@ -192,16 +192,23 @@ def cells(text):
 
 def session(heard, password, subscribers, spare):
     """The answers to the bytes of a session, its pages, and how often each count of the report came."""
-    characters = bytes(c & 127 for c in heard)
-    if len(characters) >= 1_000_000:
-        raise ValueError("this model plays no forced length")
-    answers, pages, counts, joined = [], [], dict.fromkeys(REPORT, 0), b""
+    answers, pages, counts = short_session(bytes(c & 127 for c in heard[: LENGTH - 1]), password, subscribers, spare)
+    if len(heard) >= LENGTH and "END" not in answers:
+        counts["forced"] = 1
+        answers.append("END")
+    return answers, pages, counts
+
+
+def short_session(characters, password, subscribers, spare):
+    """The same of characters that are too few for a forced length."""
+    answers, pages, counts, joined = [], [], dict.fromkeys([*REPORT, "forced"], 0), b""
     items, rest = lines_before_logon(characters, password)
     for item in items:
         if item == "wrong":
             counts["wrong"] += 1
             answers.append("END" if counts["wrong"] == 3 else "NAK")
             if counts["wrong"] == 3:
+                counts["forced"] = 1
                 return answers, pages, counts
         else:
             answers.append("ID" if item == "empty" else "GO")
@@ -232,6 +239,8 @@ def session(heard, password, subscribers, spare):
     return answers, pages, counts
 
 
+# The character that is answered End whatever it completes.
+LENGTH = 1_000_000
 REPORT = ["pages", "continued", "nak", "body", "content", "form", "unknown", "text", "room", "wrong"]
 REPLIES = {"ID": b"ID=", "GO": b"\x06\r\x1b[p\r", "ACK": b"\x06\r", "NAK": b"\x15\r", "END": b"\x1b\x04\r"}
 
@@ -240,8 +249,9 @@ def replies(answers):
     return b"".join(REPLIES.get(answer, b"\x1e\r") for answer in answers)
 
 
-def report_line(number, answers, counts):
-    end = "hung-up" if "END" not in answers else "forced" if counts["wrong"] == 3 else "ended"
+def report_line(number, answers, counts, without_end="hung-up"):
+    """The line of a session, which ended this way where no End was answered."""
+    end = without_end if "END" not in answers else "forced" if counts["forced"] else "ended"
     return f"session {number} {end} " + " ".join(f"{name} {counts[name]}" for name in REPORT) + "\n"
 
 
@@ -286,11 +296,21 @@ def is_sync(word):
     return (word ^ SYNC).bit_count() <= 2
 
 
+def hunted(bits, at):
+    """The place behind the first sync word of a hunt that begins at this place, or none."""
+    word = 0
+    for place in range(at, len(bits)):
+        word = (word << 1 | bits[place]) & 0xFFFFFFFF
+        if (word ^ SYNC).bit_count() <= 2 and place - at >= 31:
+            return place + 1
+    return None
+
+
 def stretches(bits):
     """For each lock the words of its batches, each batch the list of its slots, and the place of the first bit behind each word."""
     found, at = [], 0
     while at is not None:
-        lock = next((k for k in range(at + 32, len(bits) + 1) if is_sync(number_of(bits[k - 32 : k]))), None)
+        lock = hunted(bits, at)
         at = None
         if lock is None:
             break
@@ -311,8 +331,13 @@ def stretches(bits):
 
 def heard(bits, capcodes):
     """The pages that receivers of these capcodes hear, as they are complete."""
+    return heard_in(stretches(bits), capcodes)
+
+
+def heard_in(found, capcodes):
+    """The same of the stretches of lock of the bits."""
     pages = []
-    for batches in stretches(bits):
+    for batches in found:
         fixed = [(fix(word), place) for batch in batches for word, place in batch]
         for p, (word, _) in enumerate(fixed):
             if word is None or word >> 31:
@@ -340,8 +365,13 @@ def page_lines(pages, capcodes):
 
 def table(bits):
     """The lines of `show`."""
+    return table_of(stretches(bits))
+
+
+def table_of(found):
+    """The same of the stretches of lock of the bits."""
     lines, count = "", 0
-    for batches in stretches(bits):
+    for batches in found:
         for batch in batches:
             count += 1
             lines += f"batch {count}\n"

@@ -1,0 +1,10 @@
+#!/bin/sh
+# Compares `play` and `show` with the plain model over many files: random bits, bits near sync words, transmissions whose words are wrong
+# in three bits, cut transmissions, pages of about 140 groups. It wants rt and Python 3. Words: the seed (1 where there is none), how many
+# files (10000), the program (the built one), and the most seconds (1500).
+set -eu
+. "$(dirname -- "$0")/../workspace.sh"
+
+program=${3:-$top/crates/page_tool/out/page_tool}
+[ $# -ge 3 ] || "$top/pocsag" one 8 <"$top/examples/abc.tap" >/dev/null
+python3 "$here/soak.py" "$program" "$work" "${1:-1}" "${2:-10000}" "${4:-1500}"
