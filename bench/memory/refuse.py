@@ -19,7 +19,7 @@ import sys
 import threading
 
 RANK = 1000  # the request that the toolchain refuses
-AFTER = 2000  # as refusals.rt says
+AFTER = 2000  # as run.sh says
 MEMORY = (14, b"", b"pocsag: memory\n")
 SECONDS = 3600
 PORTS = 20000  # below those that a system gives to callers
