@@ -7,7 +7,7 @@
 //! isn't fed, so the loop of `hold` never comes to its end.
 
 ghost use Rattle.std.specs.Prelude.{◌≡◌, ℕ, ◌+◌, ◌≤◌, IsTrue, List, [], ◌∷◌, ◌++◌, length};
-ghost use Rattle.calling.specs.Conversations.{Came, GoesOnSo, Held, UnderWay};
+ghost use Rattle.calling.specs.Conversations.{Came, GoesOnSo, CallStaysOpen, CallUnderWay};
 ghost use Rattle.calling.specs.Progress.{logon_of, logon_of_stage, outcomes_of};
 ghost use Rattle.tap_entry.specs.PagesFile.{most_pages};
 ghost use Rattle.wires.specs.Line.{Line};
@@ -42,7 +42,7 @@ impl Stage {
 /// Sends the pages over the open connection. The outcomes of the pages that were decided are appended to the list, which is empty at
 /// first.
 pub(crate) fn converse<W: Wire>(pages: &Pages, done: &mut Outcomes, wire: &mut W) -> Ending
-    ensures { length pages.now.pages ≤ most_pages → done.old.items ≡ [] → Held pages.now (W.state wire.old) (W.state wire.new) (outcomes_of pages.now (logon_of result) done.new.items) result }
+    ensures { length pages.now.pages ≤ most_pages → done.old.items ≡ [] → CallStaysOpen pages.now (W.state wire.old) (W.state wire.new) (outcomes_of pages.now (logon_of result) done.new.items) result }
 {
     let calling = Calling::new(pages.password());
     if let Err(Failed) = say(&FIRST, wire) {
@@ -53,8 +53,8 @@ pub(crate) fn converse<W: Wire>(pages: &Pages, done: &mut Outcomes, wire: &mut W
 
 /// Hears and answers, until the call ends.
 fn hold<W: Wire>(stage: Stage, pages: &Pages, done: &mut Outcomes, wire: &mut W) -> Ending
-    ensures { (first : Line) → UnderWay pages.now first (W.state wire.old) stage MOST_FED done.old.items [] []
-        → Held pages.now first (W.state wire.new) (outcomes_of pages.now (logon_of result) done.new.items) result }
+    ensures { (first : Line) → CallUnderWay pages.now first (W.state wire.old) stage MOST_FED done.old.items [] []
+        → CallStaysOpen pages.now first (W.state wire.new) (outcomes_of pages.now (logon_of result) done.new.items) result }
 {
     let mut now = stage;
     let mut left = MOST_FED;
@@ -81,7 +81,7 @@ fn feed_all<W: Wire>(
     done: &mut Outcomes,
     wire: &mut W,
 ) -> Step
-    ensures { (first : Line) (heard : List ℕ) → UnderWay pages.now first (W.state wire.old) stage left.old done.old.items heard bytes.now
+    ensures { (first : Line) (heard : List ℕ) → CallUnderWay pages.now first (W.state wire.old) stage left.old done.old.items heard bytes.now
         → GoesOnSo pages.now first (W.state wire.new) left.new done.new.items heard [] result }
 {
     let mut now = stage;
@@ -103,7 +103,7 @@ fn feed<W: Wire>(
     done: &mut Outcomes,
     wire: &mut W,
 ) -> Step
-    ensures { (first : Line) (heard ahead : List ℕ) → UnderWay pages.now first (W.state wire.old) stage left.old done.old.items heard (byte ∷ ahead)
+    ensures { (first : Line) (heard ahead : List ℕ) → CallUnderWay pages.now first (W.state wire.old) stage left.old done.old.items heard (byte ∷ ahead)
         → GoesOnSo pages.now first (W.state wire.new) left.new done.new.items heard ahead result }
 {
     if *left == 0 {

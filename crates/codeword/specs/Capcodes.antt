@@ -8,6 +8,10 @@ high_of capcode = capcode / 8
 abbrev pub frame_of : ℕ → ℕ
 frame_of capcode = capcode % 8
 
+-- the frame of a slot, by its number from the first slot of a batch on
+abbrev pub frame_at : ℕ → ℕ
+frame_at place = place % 16 / 2
+
 -- The high bits that the idle word and the sync word have. The sixteen capcodes with these aren't used.
 abbrev pub idle_high : ℕ
 idle_high = 250958

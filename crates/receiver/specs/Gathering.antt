@@ -14,8 +14,8 @@ IsOurs listens place (Some (Message group)) ours = Unit {0}
 IsOurs listens place None ours = Unit {0}
 
 -- the page that begins with an address word of a capcode that is listened to
-abbrev pub begun : Function → Option ℕ → Option HeardPage
-begun function ours = option_map (λ c. record { capcode = c; function = function; groups = [] }) ours
+abbrev pub page_begun : Function → Option ℕ → Option HeardPage
+page_begun function ours = option_map (λ c. record { capcode = c; function = function; groups = [] }) ours
 
 -- the capcode of this number, where it is one of these
 abbrev pub IsFound : List ℕ → ℕ → Option ℕ → Type 0

@@ -4,8 +4,8 @@ ghost use Rattle.std.specs.Prelude.{◌≡◌, ℕ, Bool, None, Some, IfSome, Is
 ghost use Rattle.codeword.specs.Kinds.{IsSmall};
 ghost use Rattle.page_text.specs.Texts.{text_of};
 ghost use Rattle.receiver.specs.UnderWay.{open_after, completed};
-ghost use Rattle.receiver.specs.Listeners.{answer_of, ready_pages};
-ghost use Rattle.receiver.specs.Gathering.{IsOurs, begun};
+ghost use Rattle.receiver.specs.Listeners.{ready_answer, ready_pages};
+ghost use Rattle.receiver.specs.Gathering.{IsOurs, page_begun};
 
 use crate::ready::Ready;
 use codeword::{Capcode, Function, WordKind};
@@ -73,7 +73,7 @@ impl Gathering {
         requires small { IfSome kind IsSmall }
         ensures page { (listens : ℕ → Bool) → IsOurs listens place kind ours → self.new.under_way ≡ open_after listens place self.old.under_way kind }
         ensures ready { completed self.old.under_way kind ≡ ready_pages self.new.ready }
-        ensures answer { result ≡ answer_of self.new.ready }
+        ensures answer { result ≡ ready_answer self.new.ready }
     {
         let Some(said) = kind else {
             self.close();
@@ -94,7 +94,7 @@ impl Gathering {
     /// Begins a page, where the capcode is listened to. The page under way until now is complete.
     fn begin(&mut self, function: Function, ours: Option<Capcode>)
         requires none_ready { self.old.ready ≡ None }
-        ensures page { self.new.under_way ≡ begun function ours }
+        ensures page { self.new.under_way ≡ page_begun function ours }
         ensures ready { self.new.ready ≡ self.old.under_way }
     {
         self.ready = self.page;

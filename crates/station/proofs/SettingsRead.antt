@@ -3,7 +3,7 @@ use Rattle.std.proofs.Common.{◌≡◌, inl, inr, ℕ, ◌<◌, true, List, len
 use Rattle.std.proofs.lemmas.Bool.{cases_lt}
 use Rattle.std.proofs.lemmas.List.{length-take-le, take_all}
 use Rattle.subscribers.specs.Parts.{Parts}
-use Rattle.subscribers.specs.Settings.{IsOrMemory, most_bytes, settings_of}
+use Rattle.subscribers.specs.Settings.{IsOrMemory, most_settings_bytes, settings_of}
 use Rattle.subscribers.specs.declared.faults.SettingsFault.{SettingsFault}
 use Rattle.subscribers.specs.declared.faults.SettingsFault.TheVariants.{Long, Memory}
 use Rattle.wires.specs.Files.{Files}
@@ -15,13 +15,13 @@ lt_true : (a b : ℕ) → a < b → nat_lt a b ≡ true
 lt_true a b h = grind arith
 
 -- more bytes than settings may have
-settings_of-long : (bytes : List ℕ) → most_bytes < length bytes → settings_of bytes ≡ Err Long
+settings_of-long : (bytes : List ℕ) → most_settings_bytes < length bytes → settings_of bytes ≡ Err Long
 unfolding settings_of
-settings_of-long bytes h = let yes : nat_lt most_bytes (length bytes) ≡ true = lt_true most_bytes (length bytes) h in rw yes refl
+settings_of-long bytes h = let yes : nat_lt most_settings_bytes (length bytes) ≡ true = lt_true most_settings_bytes (length bytes) h in rw yes refl
 
 -- one byte more than they may have is enough to refuse them
 settings_of-take : (bytes : List ℕ) → settings_of (take most_of_file bytes) ≡ settings_of bytes
-settings_of-take bytes = elim (cases_lt most_bytes (length bytes)) [
+settings_of-take bytes = elim (cases_lt most_settings_bytes (length bytes)) [
   | inl long ↦ settings_of-long (take most_of_file bytes) (let n = length-take-le most_of_file bytes (omega (arith, long)) in omega (arith, n)) ∙ sym (settings_of-long bytes long)
   | inr few ↦ ap settings_of (take_all most_of_file bytes (omega (arith, few)))
 ]

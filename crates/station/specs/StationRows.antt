@@ -28,17 +28,17 @@ pub record ServedBy (address settings air : List ℕ) (count : ℕ) (old new : A
   pub served : HasServed parts parts.cells (with_shelf old shelf) new address air count status
 
 -- Wire and output are as they were.
-pub record KeepsAround (old new : Around) : Type 0 where
+pub record LeavesWireAndOut (old new : Around) : Type 0 where
   pub wire : new.wire ≡ old.wire
   pub out : new.out ≡ old.out
 
 -- `station`, by what it came to
 abbrev pub StationRow : List ℕ → List ℕ → List ℕ → ℕ → Around → Around → Outcome → Type 0
-StationRow address settings air count old new (Refused fault) = RefusedSettings settings old.shelf new.shelf fault × KeepsAround old new
+StationRow address settings air count old new (Refused fault) = RefusedSettings settings old.shelf new.shelf fault × LeavesWireAndOut old new
 StationRow address settings air count old new (Misread fault) = ⊥
-StationRow address settings air count old new (Ended Memory) = Unharmed settings old.shelf new.shelf × KeepsAround old new
+StationRow address settings air count old new (Ended Memory) = Unharmed settings old.shelf new.shelf × LeavesWireAndOut old new
 StationRow address settings air count old new (Ended FileFault) =
-    (Unreadable settings old.shelf new.shelf × KeepsAround old new) ⊎ ServedBy address settings air count old new FileFault
+    (Unreadable settings old.shelf new.shelf × LeavesWireAndOut old new) ⊎ ServedBy address settings air count old new FileFault
 StationRow address settings air count old new (Ended status) = ServedBy address settings air count old new status
 
 -- these are the bits of a file's bytes

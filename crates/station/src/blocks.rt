@@ -3,7 +3,7 @@
 ghost use Rattle.std.specs.Prelude.{◌≡◌, ◌≢◌, ℕ, ◌+◌, ◌≤◌, Bool, List, [], ◌∷◌, ◌++◌, length, IsFalse, IsTrue, MatchOption, None, Option, Some};
 ghost use Rattle.tap_block.specs.declared.ends.End.TheVariants.{Etx};
 ghost use Rattle.tap_block.specs.declared.items.Item.TheVariants.{Block};
-ghost use Rattle.tap_block.specs.Brief.{Held, StandsFor};
+ghost use Rattle.tap_block.specs.Brief.{ScannerState, ScannerStandsFor};
 ghost use Rattle.tap_block.specs.Chars.{characters, etx, stx};
 ghost use Rattle.tap_block.specs.Reading.{AfterLogon, Entry};
 ghost use Rattle.station.specs.LoneBlock.{IsLoneBlock, IsMarkedBlock};
@@ -18,8 +18,8 @@ pub(crate) const LONGEST_BLOCK: usize = 1 + LONGEST_BODY + 1 + TRAILER;
 /// Feeds characters to a scanner, and says whether none of them completed an item.
 fn is_silent(scanner: &mut Scanner, chars: &[u8]) -> bool
     ensures password { scanner.new.password ≡ scanner.old.password }
-    ensures silent { IsTrue result → StandsFor AfterLogon scanner.old [] [] → StandsFor AfterLogon scanner.new (characters chars.now) [] }
-    ensures broken { IsFalse result → StandsFor AfterLogon scanner.old [] [] → BreaksSilence scanner.old.password (characters chars.now) }
+    ensures silent { IsTrue result → ScannerStandsFor AfterLogon scanner.old [] [] → ScannerStandsFor AfterLogon scanner.new (characters chars.now) [] }
+    ensures broken { IsFalse result → ScannerStandsFor AfterLogon scanner.old [] [] → BreaksSilence scanner.old.password (characters chars.now) }
 {
     for c in chars {
         if scanner.feed(*c).is_some() {

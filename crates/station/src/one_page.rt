@@ -9,7 +9,7 @@ ghost use Rattle.page_pool.specs.Pool.{pages};
 ghost use Rattle.tap_block.specs.Chars.{characters};
 ghost use Rattle.station.specs.AlphaPage.{alpha_page};
 ghost use Rattle.station.specs.Rows.{OneRow};
-ghost use Rattle.station.specs.Sends.{Sends};
+ghost use Rattle.station.specs.Sends.{SendsPage};
 
 use crate::blocks::{LONGEST_BLOCK, lone_block};
 use crate::input::read_front;
@@ -50,7 +50,7 @@ fn put(pool: &mut Pool, capcode: Capcode, text: &[u8])
 
 /// Writes the transmission of a pool's page as bytes.
 pub(crate) fn send<O: Sink>(pool: &mut Pool, out: &mut O) -> Result<Sent, Failed>
-    ensures { (page : Page) → pages pool.old ≡ page ∷ [] → Sends page (O.state out.old) (O.state out.new) result }
+    ensures { (page : Page) → pages pool.old ≡ page ∷ [] → SendsPage page (O.state out.old) (O.state out.new) result }
 {
     let mut steps: Steps<Work> = Steps::new();
     let mut words = WordBytes::over(out);

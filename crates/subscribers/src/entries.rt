@@ -2,7 +2,7 @@
 
 ghost use Rattle.std.specs.Prelude.{◌≡◌, ◌≤◌, length};
 ghost use Rattle.std.specs.List.{list_all};
-ghost use Rattle.subscribers.specs.Entries.{is_between, is_id, capcode_of, function_of, subscriber_of, ids_of};
+ghost use Rattle.subscribers.specs.Entries.{is_between, is_id, capcode_of, function_of_class, subscriber_of, ids_of};
 ghost use Rattle.subscribers.specs.Seen.{seen_entry, seen_entries};
 ghost use Rattle.subscribers.specs.Settings.{most_entries, IsOrMemory};
 
@@ -42,7 +42,7 @@ fn capcode_from(n: i64) -> Option<Capcode>
 
 /// The function that a class names. None where it names none.
 fn function_from(class: &str) -> Option<Function>
-    ensures { result ≡ function_of class.now }
+    ensures { result ≡ function_of_class class.now }
 {
     match class {
         "numeric" => Some(Function::Numeric),

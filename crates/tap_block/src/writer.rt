@@ -8,10 +8,11 @@ ghost use Rattle.tap_block.specs.Chars.{IsChar};
 ghost use Rattle.wires.specs.Written.{Puts};
 
 use crate::content::sum;
-use crate::control::{CR, STX};
+use crate::control::STX;
 use crate::ends::End;
 use crate::{LONGEST_BODY, TRAILER};
 use arrayvec::ArrayVec;
+use entry_line::characters::CR;
 use wires::Failed;
 use wires::sink::Sink;
 

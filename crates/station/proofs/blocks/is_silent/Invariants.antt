@@ -1,5 +1,5 @@
 use Rattle.std.proofs.Common.{◌≡◌, [], take}
-use Rattle.tap_block.specs.Brief.{StandsFor}
+use Rattle.tap_block.specs.Brief.{ScannerStandsFor}
 use Rattle.tap_block.specs.Chars.{characters}
 use Rattle.tap_block.specs.Reading.{AfterLogon}
 use Rattle.station.proofs.blocks.is_silent.Given as goal
@@ -7,5 +7,5 @@ use Rattle.station.proofs.blocks.is_silent.Given as goal
 abbrev pub invariant-loop-c : goal.invariant-loop-c
 invariant-loop-c l = record {
   password : l.scanner.password ≡ l.initial.scanner.password;
-  silent : StandsFor AfterLogon l.initial.scanner [] [] → StandsFor AfterLogon l.scanner (characters (take l.c-index l.chars)) [];
+  silent : ScannerStandsFor AfterLogon l.initial.scanner [] [] → ScannerStandsFor AfterLogon l.scanner (characters (take l.c-index l.chars)) [];
 }

@@ -2,7 +2,8 @@ use Rattle.std.proofs.Common.{◌≡◌, [], ℕ, List, sym, ◌∙◌, length, 
 use Rattle.std.proofs.lemmas.Slice.Eq.{bytes_eq-Decides}
 use Rattle.tap_block.specs.Brief.{ReadsOn}
 use Rattle.tap_block.specs.declared.items.Item.{Item}
-use Rattle.tap_block.specs.Chars.{char_of, characters}
+use Rattle.entry_line.specs.Chars.{char_of}
+use Rattle.tap_block.specs.Chars.{characters}
 use Rattle.tap_block.specs.Reading.{AfterLogon}
 use Rattle.station.proofs.LoneBlocks.{block_answer, fed_before, last_answers, lone_form, makes_block, same_between, size_is, stays_silent, kept_body}
 use Rattle.station.specs.Silent.{BreaksSilence}

@@ -1,5 +1,5 @@
 use Rattle.std.proofs.Common.{sym, ◌∙◌, ap, arith, length, length-append, ◌∷◌, ◌++◌, [], take}
-use Rattle.tap_block.specs.Chars.{cr}
+use Rattle.entry_line.specs.Chars.{cr}
 use Rattle.tap_block.specs.Fields.{HasFault, HasValue}
 use Rattle.station.proofs.ReadTexts.{failed_with, held_with, no_first, no_fit, no_second_value, not_ok, ok_of}
 use Rattle.station.proofs.texts.read_text.Goals as goal

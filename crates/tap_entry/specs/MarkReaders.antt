@@ -1,16 +1,19 @@
 -- What a listener keeps of the characters that are no mark yet.
+use Rattle.entry_line.specs.Kept.{push_within}
 use Rattle.std.specs.Prelude.{◌≡◌, ℕ, ◌==◌, nat_lt, Bool, true, false, ◌&&◌, if◌then◌else◌, List, [], ◌∷◌, ◌++◌, length, take, codes, Option, Some, None}
 use Rattle.std.specs.List.{filter_map}
 use Rattle.std.specs.Option.{option_to_list}
-use Rattle.tap_block.specs.Chars.{eot, lf, cr, esc}
+use Rattle.entry_line.specs.Chars.{lf, cr}
+use Rattle.tap_block.specs.Chars.{eot, esc}
 use Rattle.tap_entry.specs.declared.hearing.Mark.{Mark}
 use Rattle.tap_entry.specs.declared.hearing.Mark.TheVariants.{Id, Ack, Nak, Rs, End, Go}
 use Rattle.tap_entry.specs.declared.hearing.Seen.{Seen}
 use Rattle.tap_entry.specs.declared.hearing.Seen.TheVariants.{Nothing, I, Id as IdSeen}
-use Rattle.tap_entry.specs.Marks.{ack, nak, rs, same, Cuts, mark_of, without_lf}
+use Rattle.tap_block.specs.Reading.{without_lf}
+use Rattle.tap_entry.specs.Marks.{ack, nak, rs, same, Cuts, mark_of}
 
 -- the first characters of the rest, and how much of `ID=` it ends in
-pub record Ear : Type 0 where
+pub record MarkReader : Type 0 where
   pub line : List ℕ
   pub seen : Seen
 
@@ -20,9 +23,9 @@ is_i I = true
 is_i other = false
 
 -- `ID` was seen
-abbrev pub is_id : Seen → Bool
-is_id IdSeen = true
-is_id other = false
+abbrev pub saw_id : Seen → Bool
+saw_id IdSeen = true
+saw_id other = false
 
 -- what is seen after one character more
 abbrev pub seen_by : Seen → ℕ → Seen
@@ -34,7 +37,7 @@ seen_from seen [] = seen
 seen_from seen (c ∷ x) = seen_from (seen_by seen c) x
 
 -- The listener stands for the characters, whose marks are these: it has the first four of the rest, and how much of `ID=` the rest ends in.
-pub record StandsFor (ear : Ear) (x : List ℕ) (marks : List Mark) : Type 0 where
+pub record ReaderStandsFor (ear : MarkReader) (x : List ℕ) (marks : List Mark) : Type 0 where
   pub pieces : List (List ℕ)
   pub rest : List ℕ
   pub cuts : Cuts pieces rest (without_lf x)
@@ -52,31 +55,27 @@ line_mark l =
     else if same l (esc ∷ codes "[p") then Some Go
     else None
 
--- one character more, but at most n
-abbrev pub push_within : ℕ → List ℕ → ℕ → List ℕ
-push_within n x c = if nat_lt (length x) n then x ++ c ∷ [] else x
-
 -- what is kept after a character, and the mark that it completes
-pub record Stepped : Type 0 where
-  pub ear : Ear
+pub record ReaderStepped : Type 0 where
+  pub ear : MarkReader
   pub mark : Option Mark
 
 -- nothing is kept
-abbrev pub fresh : Ear
+abbrev pub fresh : MarkReader
 fresh = record { line = []; seen = Nothing }
 
 -- one character further
-abbrev pub step : Ear → ℕ → Stepped
-step e c =
+abbrev pub reader_step : MarkReader → ℕ → ReaderStepped
+reader_step e c =
     if c == lf then record { ear = e; mark = None }
     else if c == cr then record { ear = fresh; mark = line_mark e.line }
-    else if (c == 61) && is_id e.seen then record { ear = fresh; mark = Some Id }
+    else if (c == 61) && saw_id e.seen then record { ear = fresh; mark = Some Id }
     else record { ear = record { line = push_within 4 e.line c; seen = seen_by e.seen c }; mark = None }
 
 -- the marks that a listener hears in characters, computed
-abbrev pub heard_from : Ear → List ℕ → List Mark
+abbrev pub heard_from : MarkReader → List ℕ → List Mark
 heard_from e [] = []
-heard_from e (c ∷ x) = option_to_list (step e c).mark ++ heard_from (step e c).ear x
+heard_from e (c ∷ x) = option_to_list (reader_step e c).mark ++ heard_from (reader_step e c).ear x
 
 -- the marks of characters, computed
 abbrev pub marks_of : List ℕ → List Mark

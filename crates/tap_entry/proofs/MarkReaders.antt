@@ -8,33 +8,19 @@ use Rattle.std.proofs.lemmas.Bool.{cases_lt}
 use Rattle.std.proofs.lemmas.List.{drop-append-le, take-append-le, take_all, length-take-le}
 use Rattle.std.proofs.lemmas.List.Elements.{filter-append, filter_map-append}
 use Rattle.std.proofs.lemmas.Bool.Decides.{nat_tests}
-use Rattle.tap_block.specs.Chars.{eot, lf, cr, esc}
+use Rattle.entry_line.specs.Chars.{lf, cr}
+use Rattle.tap_block.specs.Chars.{eot, esc}
 use Rattle.tap_block.proofs.First.{equal, not_equal, by_test}
 use Rattle.tap_entry.specs.declared.hearing.Mark.{Mark}
 use Rattle.tap_entry.specs.declared.hearing.Mark.TheVariants.{Id}
 use Rattle.tap_entry.specs.declared.hearing.Seen.{Seen}
 use Rattle.tap_entry.specs.declared.hearing.Seen.TheVariants.{Nothing, I, Id as IdSeen}
-use Rattle.tap_entry.specs.Marks.{ack, nak, rs, prompt, Ends, Cuts, same, mark_of, without_lf}
-use Rattle.tap_entry.specs.Ears.{Ear, is_i, is_id, seen_by, seen_from, StandsFor, line_mark, push_within, Stepped, fresh, step}
+use Rattle.tap_block.specs.Reading.{without_lf}
+use Rattle.tap_entry.specs.Marks.{ack, nak, rs, prompt, Ends, Cuts, same, mark_of}
+use Rattle.entry_line.specs.Kept.{push_within}
+use Rattle.tap_entry.specs.MarkReaders.{MarkReader, is_i, saw_id, seen_by, seen_from, ReaderStandsFor, line_mark, ReaderStepped, fresh, reader_step}
+use Rattle.entry_line.proofs.Bounds.{take_push}
 use Rattle.tap_entry.proofs.Cutting.{nil_open, ends_push, cuts_piece, cuts_more, same_push, same_take}
-
--- a front that is kept, and one character more
-take_push : (n : ℕ) (b : List ℕ) (c : ℕ) → push_within n (take n b) c ≡ take n (b ++ c ∷ [])
-take_push n b c = elim (cases_lt (length b) n) [ inl h ↦ short n b c h | inr h ↦ long n b c h ]
-  where
-    short : (n : ℕ) (b : List ℕ) (c : ℕ) → length b < n → push_within n (take n b) c ≡ take n (b ++ c ∷ [])
-    short n b c h =
-        let e : take n b ≡ b = take_all n b (omega arith) in
-        let f : take n (b ++ c ∷ []) ≡ b ++ c ∷ [] = take_all n (b ++ c ∷ []) (simp length-append (omega arith)) in
-        let t : nat_lt (length b) n ≡ true = grind (arith, nat_tests) in
-        rw (e, f, t) refl
-
-    long : (n : ℕ) (b : List ℕ) (c : ℕ) → n ≤ length b → push_within n (take n b) c ≡ take n (b ++ c ∷ [])
-    long n b c h =
-        let e : take n (b ++ c ∷ []) ≡ take n b = take-append-le n b (c ∷ []) h in
-        let k : length (take n b) ≡ n = length-take-le n b h in
-        let t : nat_lt n n ≡ false = grind (arith, nat_tests) in
-        rw (e, k, t) refl
 
 seen_push : (s : Seen) (x : List ℕ) (c : ℕ) → seen_from s (x ++ c ∷ []) ≡ seen_by (seen_from s x) c
 seen_push s [] c = refl
@@ -65,10 +51,10 @@ by_i s c h = one (c == 73) refl ((c == 68) && is_i s) h
     one false e true k = absurd cc
     one false e false k = absurd cc
 
-by_id : (s : Seen) (c : ℕ) → is_id (seen_by s c) ≡ true → (c ≡ 68) × (is_i s ≡ true)
+by_id : (s : Seen) (c : ℕ) → saw_id (seen_by s c) ≡ true → (c ≡ 68) × (is_i s ≡ true)
 by_id s c h = one (c == 73) ((c == 68)) refl (is_i s) refl h
   where
-    one : (b : Bool) → (d : Bool) → (c == 68) ≡ d → (i : Bool) → is_i s ≡ i → is_id (cond b I (cond (d && i) IdSeen Nothing)) ≡ true → (c ≡ 68) × (is_i s ≡ true)
+    one : (b : Bool) → (d : Bool) → (c == 68) ≡ d → (i : Bool) → is_i s ≡ i → saw_id (cond b I (cond (d && i) IdSeen Nothing)) ≡ true → (c ≡ 68) × (is_i s ≡ true)
     one true d e i f k = absurd cc
     one false true e true f k = (grind (arith, nat_tests), f)
     one false true e false f k = absurd cc
@@ -81,13 +67,13 @@ ends_i x h = from_view x (as_pushed x) h
     from_view x none h = absurd cc
     from_view x (pushed l c) h = (l, ap (λ k. l ++ k ∷ []) (by_i (seen_from Nothing l) c (ap is_i (sym (seen_push Nothing l c)) ∙ h)))
 
-ends_id : (x : List ℕ) → is_id (seen_from Nothing x) ≡ true → (l : List ℕ) × (x ≡ l ++ codes "ID")
+ends_id : (x : List ℕ) → saw_id (seen_from Nothing x) ≡ true → (l : List ℕ) × (x ≡ l ++ codes "ID")
 ends_id x h = from_view x (as_pushed x) h
   where
-    from_view : (x : List ℕ) → Pushed x → is_id (seen_from Nothing x) ≡ true → (l : List ℕ) × (x ≡ l ++ codes "ID")
+    from_view : (x : List ℕ) → Pushed x → saw_id (seen_from Nothing x) ≡ true → (l : List ℕ) × (x ≡ l ++ codes "ID")
     from_view x none h = absurd cc
     from_view x (pushed l c) h =
-        let k = by_id (seen_from Nothing l) c (ap is_id (sym (seen_push Nothing l c)) ∙ h) in
+        let k = by_id (seen_from Nothing l) c (ap saw_id (sym (seen_push Nothing l c)) ∙ h) in
         let m = ends_i l k.1 in
         (m.0, ap (λ d. l ++ d ∷ []) k.0 ∙ ap (λ z. z ++ 68 ∷ []) m.1 ∙ append_assoc m.0 (codes "I") (68 ∷ []))
 
@@ -125,8 +111,8 @@ with_char : (x : List ℕ) (c : ℕ) → c ≢ lf → without_lf (x ++ c ∷ [])
 with_char x c n = filter-append (λ c. not (c == lf)) x (c ∷ []) ∙ ap (λ z. without_lf x ++ z) (rw (not_equal c lf n) refl)
 
 -- the next character completes a piece
-completes : (e : Ear) (x : List ℕ) (c : ℕ) (marks : List Mark) (mark : Option Mark) → (h : StandsFor e x marks) → c ≢ lf → Ends (h.rest ++ c ∷ []) → mark_of (h.rest ++ c ∷ []) ≡ mark
-    → StandsFor fresh (x ++ c ∷ []) (marks ++ option_to_list mark)
+completes : (e : MarkReader) (x : List ℕ) (c : ℕ) (marks : List Mark) (mark : Option Mark) → (h : ReaderStandsFor e x marks) → c ≢ lf → Ends (h.rest ++ c ∷ []) → mark_of (h.rest ++ c ∷ []) ≡ mark
+    → ReaderStandsFor fresh (x ++ c ∷ []) (marks ++ option_to_list mark)
 completes e x c marks mark h n ends is = record {
   pieces = h.pieces ++ (h.rest ++ c ∷ []) ∷ [];
   rest = [];
@@ -141,8 +127,8 @@ completes e x c marks mark h n ends is = record {
     one (Some m) e = ap (λ o. filter_map (λ _. o) ((h.rest ++ c ∷ []) ∷ [])) e
 
 -- the next character completes nothing
-goes_on : (e : Ear) (x : List ℕ) (c : ℕ) (marks : List Mark) → (h : StandsFor e x marks) → c ≢ lf → (Ends (h.rest ++ c ∷ []) → ⊥)
-    → StandsFor (record { line = push_within 4 e.line c; seen = seen_by e.seen c }) (x ++ c ∷ []) (marks ++ [])
+goes_on : (e : MarkReader) (x : List ℕ) (c : ℕ) (marks : List Mark) → (h : ReaderStandsFor e x marks) → c ≢ lf → (Ends (h.rest ++ c ∷ []) → ⊥)
+    → ReaderStandsFor (record { line = push_within 4 e.line c; seen = seen_by e.seen c }) (x ++ c ∷ []) (marks ++ [])
 goes_on e x c marks h n open_ = record {
   pieces = h.pieces;
   rest = h.rest ++ c ∷ [];
@@ -152,31 +138,31 @@ goes_on e x c marks h n open_ = record {
   seen_is = ap (λ s. seen_by s c) h.seen_is ∙ sym (seen_push Nothing h.rest c);
 }
 
-pub stands_on : (e : Ear) (x : List ℕ) (c : ℕ) (marks : List Mark) → StandsFor e x marks → StandsFor (step e c).ear (x ++ c ∷ []) (marks ++ option_to_list (step e c).mark)
+pub stands_on : (e : MarkReader) (x : List ℕ) (c : ℕ) (marks : List Mark) → ReaderStandsFor e x marks → ReaderStandsFor (reader_step e c).ear (x ++ c ∷ []) (marks ++ option_to_list (reader_step e c).mark)
 stands_on e x c marks h =
-    let P : Stepped → Type 0 = λ z. StandsFor z.ear (x ++ c ∷ []) (marks ++ option_to_list z.mark) in
+    let P : ReaderStepped → Type 0 = λ z. ReaderStandsFor z.ear (x ++ c ∷ []) (marks ++ option_to_list z.mark) in
     by_test P c lf _ _
     (λ p. record { pieces = h.pieces; rest = h.rest; cuts = subst (λ z. Cuts h.pieces h.rest z) (sym (no_lf x c p)) h.cuts; marks_are = append-nil marks ∙ h.marks_are; line_is = h.line_is; seen_is = h.seen_is })
     (λ n. by_test P c cr _ _
     (λ p. completes e x c marks (line_mark e.line) h n (h.rest, inl (ap (λ k. h.rest ++ k ∷ []) p)) (ap (λ k. mark_of (h.rest ++ k ∷ [])) p ∙ line_mark_is h.rest ∙ ap line_mark (sym h.line_is)))
-    (λ m. by_prompt (c == 61) refl (is_id e.seen) refl n m))
+    (λ m. by_prompt (c == 61) refl (saw_id e.seen) refl n m))
   where
-    by_prompt : (b : Bool) → (c == 61) ≡ b → (d : Bool) → is_id e.seen ≡ d → c ≢ lf → c ≢ cr
-        → (let z : Stepped = cond (b && d) (record { ear = fresh; mark = Some Id }) (record { ear = record { line = push_within 4 e.line c; seen = seen_by e.seen c }; mark = None }) in
-        StandsFor z.ear (x ++ c ∷ []) (marks ++ option_to_list z.mark))
+    by_prompt : (b : Bool) → (c == 61) ≡ b → (d : Bool) → saw_id e.seen ≡ d → c ≢ lf → c ≢ cr
+        → (let z : ReaderStepped = cond (b && d) (record { ear = fresh; mark = Some Id }) (record { ear = record { line = push_within 4 e.line c; seen = seen_by e.seen c }; mark = None }) in
+        ReaderStandsFor z.ear (x ++ c ∷ []) (marks ++ option_to_list z.mark))
     by_prompt true f true g n m =
         let q : c ≡ 61 = grind (arith, nat_tests) in
-        let k = ends_id h.rest (ap is_id (sym h.seen_is) ∙ g) in
+        let k = ends_id h.rest (ap saw_id (sym h.seen_is) ∙ g) in
         let w : h.rest ++ c ∷ [] ≡ k.0 ++ prompt = ap (λ d. h.rest ++ d ∷ []) q ∙ ap (λ z. z ++ 61 ∷ []) k.1 ∙ append_assoc k.0 (codes "ID") (61 ∷ []) in
         completes e x c marks (Some Id) h n (k.0, inr w) (ap mark_of w ∙ id_mark k.0)
     by_prompt true f false g n m = goes_on e x c marks h n (λ ends. elim (ends_push h.rest c ends) [
       | inl p ↦ m p
-      | inr p ↦ (let s = ap is_id (h.seen_is ∙ ap (seen_from Nothing) p.1.1 ∙ seen_id Nothing p.1.0) in absurd cc)
+      | inr p ↦ (let s = ap saw_id (h.seen_is ∙ ap (seen_from Nothing) p.1.1 ∙ seen_id Nothing p.1.0) in absurd cc)
     ])
     by_prompt false f d g n m = goes_on e x c marks h n (λ ends. elim (ends_push h.rest c ends) [
       | inl p ↦ m p
       | inr p ↦ (let s : (c == 61) ≡ true = equal c 61 p.0 in absurd cc)
     ])
 
-pub stands_nil : StandsFor fresh [] []
+pub stands_nil : ReaderStandsFor fresh [] []
 stands_nil = record { pieces = []; rest = []; cuts = record { form = refl; each = tt; is_open = nil_open }; marks_are = refl; line_is = refl; seen_is = refl }

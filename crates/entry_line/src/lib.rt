@@ -1,0 +1,9 @@
+//! What every entry line shares, whatever its protocol: docs/profile.md, "entry line".
+//!
+//! | module | what it holds |
+//! |---|---|
+//! | `characters` | characters by name, and the length of a session |
+//! | `kept` | a front of what comes, and a count, each up to a bound |
+
+pub mod characters;
+pub mod kept;
