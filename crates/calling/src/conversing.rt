@@ -13,6 +13,7 @@ ghost use Rattle.tap_entry.specs.PagesFile.{most_pages};
 ghost use Rattle.wires.specs.Line.{Line};
 
 use crate::stages::{Ending, Logon, Outcomes, Stage, Step, say, take};
+use entry_line::characters::{CR, LAST_CHARACTER};
 use tap_entry::{Calling, Pages};
 use wires::Failed;
 use wires::wire::Wire;
@@ -21,10 +22,10 @@ use wires::wire::Wire;
 const HEARD_AT_ONCE: usize = 4096;
 
 /// So many characters are fed at most. The next one ends the call.
-const MOST_FED: u32 = 999_999;
+const MOST_FED: u32 = LAST_CHARACTER - 1;
 
 /// The carriage return that the client says at first.
-const FIRST: [u8; 1] = [0x0D];
+const FIRST: [u8; 1] = [CR];
 
 impl Stage {
     /// Whether the client was logged on.

@@ -13,6 +13,8 @@ ghost use Rattle.tap_entry.specs.declared.hearing.Mark.{Mark};
 ghost use Rattle.wires.specs.Below.{Speaks};
 
 use arrayvec::ArrayVec;
+use entry_line::characters::CR;
+use tap_block::control::EOT;
 use tap_entry::file::MOST_PAGES;
 use tap_entry::logon::LONGEST_LOGON;
 use tap_entry::{
@@ -23,7 +25,7 @@ use wires::sink::Sink;
 use wires::wire::{Saying, Wire};
 
 /// EOT CR, which the client says before it leaves.
-const GOOD_BYE: [u8; 2] = [0x04, 0x0D];
+const GOOD_BYE: [u8; 2] = [EOT, CR];
 
 /// The outcomes of the pages that are decided, in the order of the pages.
 pub(crate) type Outcomes = ArrayVec<Outcome, MOST_PAGES>;

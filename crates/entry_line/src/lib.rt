@@ -2,7 +2,7 @@
 //!
 //! | module | what it holds |
 //! |---|---|
-//! | `characters` | characters by name, and the length of a session |
+//! | `characters` | characters by name, and the sizes of a session, of a password and of an id |
 //! | `kept` | a front of what comes, and a count, each up to a bound |
 
 pub mod characters;

@@ -8,13 +8,12 @@ use Rattle.tap_entry.specs.declared.faults.PagesFault.TheVariants as Pages
 use Rattle.wires.specs.Files.{Files}
 use Rattle.wires.specs.Line.{Line}
 use Rattle.wires.specs.Written.{Written}
-use Rattle.station.specs.declared.outcomes.Outcome.{Outcome}
-use Rattle.station.specs.declared.outcomes.Outcome.TheVariants.{Ended, Misread, Refused}
+use Rattle.station.specs.declared.outcomes.Outcome.TheVariants.{Ended, Misread}
 use Rattle.endings.specs.declared.statuses.Status.{Status}
 use Rattle.endings.specs.declared.statuses.Status.TheVariants.{FileFault, Memory}
 use Rattle.calling.specs.Calls.{HasSent}
-use Rattle.station.specs.ReadFile.{ReadInto, most_of_file}
-use Rattle.station.specs.SendRows.{ComesWithout, ReadPages, SendRow}
+use Rattle.station.specs.ReadFile.{IsUnread, ReadInto, most_of_file}
+use Rattle.station.specs.SendRows.{ReadPages, SendRow}
 use Rattle.serving.specs.Serving.{Around}
 
 -- a front of a file that is short is the whole of it
@@ -49,10 +48,10 @@ read_pages name a b bytes seen told same read file = record {
 }
 
 -- the file is refused
-unsent : (address name : List ℕ) (w : Line) (a b : Files) (o : Written ℕ) (bytes seen : List ℕ) (fault : PagesFault) → seen ≡ bytes → ReadInto name a b bytes → IsFileRefused seen fault
-    → (fault ≡ Pages.Memory → ⊥) → SendRow address name (record { wire = w; shelf = a; out = o }) (record { wire = w; shelf = b; out = o }) (Misread fault)
-unsent address name w a b o bytes seen Pages.Memory same read refused other = absurd (other refl)
-unsent address name w a b o bytes seen fault same read refused other = (
+pub refused_row : (address name : List ℕ) (w : Line) (a b : Files) (o : Written ℕ) (bytes seen : List ℕ) (fault : PagesFault) → seen ≡ bytes → ReadInto name a b bytes
+    → IsFileRefused seen fault → (fault ≡ Pages.Memory → ⊥) → SendRow address name (record { wire = w; shelf = a; out = o }) (record { wire = w; shelf = b; out = o }) (Misread fault)
+refused_row address name w a b o bytes seen Pages.Memory same read refused other = absurd (other refl)
+refused_row address name w a b o bytes seen fault same read refused other = (
   record {
     unharmed = read.unharmed;
     there = read.there;
@@ -63,15 +62,15 @@ unsent address name w a b o bytes seen fault same read refused other = (
   record { wire = refl; out = refl },
 )
 
-pub refused_row : (address name : List ℕ) (w : Line) (a b : Files) (o : Written ℕ) (bytes seen : List ℕ) (fault : PagesFault) (outcome : Outcome) → seen ≡ bytes → ReadInto name a b bytes
-    → IsFileRefused seen fault → ComesWithout fault outcome → SendRow address name (record { wire = w; shelf = a; out = o }) (record { wire = w; shelf = b; out = o }) outcome
-refused_row address name w a b o bytes seen fault (Ended status) same read refused h =
+-- the file wasn't read
+pub unread_row : (address name : List ℕ) (w : Line) (a b : Files) (o : Written ℕ) (status : Status) → IsUnread name a b status
+    → SendRow address name (record { wire = w; shelf = a; out = o }) (record { wire = w; shelf = b; out = o }) (Ended status)
+unread_row address name w a b o status (inl h) =
     subst (λ (s : Status). SendRow address name (record { wire = w; shelf = a; out = o }) (record { wire = w; shelf = b; out = o }) (Ended s)) (sym h.0)
-    (read.unharmed, record { wire = refl; out = refl })
-refused_row address name w a b o bytes seen fault (Refused other) same read refused h = elim h [ ]
-refused_row address name w a b o bytes seen fault (Misread other) same read refused h =
-    subst (λ (f : PagesFault). SendRow address name (record { wire = w; shelf = a; out = o }) (record { wire = w; shelf = b; out = o }) (Misread f)) (sym h.0)
-    (unsent address name w a b o bytes seen fault same read refused h.1)
+    (h.1, record { wire = refl; out = refl })
+unread_row address name w a b o status (inr h) =
+    subst (λ (s : Status). SendRow address name (record { wire = w; shelf = a; out = o }) (record { wire = w; shelf = b; out = o }) (Ended s)) (sym h.0)
+    (h.1, record { wire = refl; out = refl })
 
 -- the pages were sent
 pub sent_row : (address name : List ℕ) (old new : Around) (told : FileContent) (status : Status) → ReadPages name old.shelf new.shelf told → HasSent told address old.wire new.wire old.out new.out status

@@ -7,9 +7,7 @@ use Rattle.subscribers.specs.Settings.{IsOrMemory, most_settings_bytes, settings
 use Rattle.subscribers.specs.declared.faults.SettingsFault.{SettingsFault}
 use Rattle.subscribers.specs.declared.faults.SettingsFault.TheVariants.{Long, Memory}
 use Rattle.wires.specs.Files.{Files}
-use Rattle.station.specs.ReadFile.{IsUnopened, ReadInto, ReadSettings, ReadsSettings, most_of_file}
-use Rattle.station.specs.declared.opening.Unopened.{Unopened}
-use Rattle.station.specs.declared.opening.Unopened.TheVariants as NotOpened
+use Rattle.station.specs.ReadFile.{ReadInto, ReadSettings, RefusedSettings, most_of_file}
 
 lt_true : (a b : ℕ) → a < b → nat_lt a b ≡ true
 lt_true a b h = grind arith
@@ -51,17 +49,15 @@ refused : (fault : SettingsFault) (seen : List ℕ) (r : Result Parts SettingsFa
 refused fault seen r e other (inl memory) = absurd (other (ap fault_of (sym e ∙ memory)))
 refused fault seen r e other (inr is) = sym is ∙ e
 
-pub no_settings : (name : List ℕ) (a b : Files) (bytes seen : List ℕ) (fault : SettingsFault) (why : Unopened) (r : Result Parts SettingsFault) → seen ≡ bytes → ReadInto name a b bytes
-    → r ≡ Err fault → IsOrMemory r (settings_of seen) → IsUnopened fault why → ReadsSettings name a b (Err why)
-no_settings name a b bytes seen fault NotOpened.Fault r same read e answer h = elim h [ ]
-no_settings name a b bytes seen fault NotOpened.Memory r same read e answer h = read.unharmed
-no_settings name a b bytes seen fault (NotOpened.Refused other) r same read e answer h =
-    let of_seen : settings_of seen ≡ Err other = refused fault seen r e h.1 answer ∙ ap (λ (f : SettingsFault). Err f) (sym h.0) in
+pub refused_settings : (name : List ℕ) (a b : Files) (bytes seen : List ℕ) (fault : SettingsFault) (r : Result Parts SettingsFault) → seen ≡ bytes → ReadInto name a b bytes
+    → r ≡ Err fault → (fault ≡ Memory → ⊥) → IsOrMemory r (settings_of seen) → RefusedSettings name a b fault
+refused_settings name a b bytes seen fault r same read e other answer =
+    let of_seen : settings_of seen ≡ Err fault = refused fault seen r e other answer in
     record {
       unharmed = read.unharmed;
       there = read.there;
       refused = λ t. sym (settings_of-take (a.file name)) ∙ (ap settings_of (sym (same ∙ read.bytes_are t)) ∙ of_seen);
       seen = seen;
       of_seen = of_seen;
-      not_memory = λ m. h.1 (sym h.0 ∙ m);
+      not_memory = other;
     }

@@ -43,9 +43,3 @@ SendRow address name old new (Misread fault) = RefusedPages name old.shelf new.s
 SendRow address name old new (Ended Memory) = Unharmed name old.shelf new.shelf × LeavesWireAndOut old new
 SendRow address name old new (Ended FileFault) = Unreadable name old.shelf new.shelf × LeavesWireAndOut old new
 SendRow address name old new (Ended status) = SentBy address name old new status
-
--- what a command comes to whose pages file is refused, by the fault of the file
-abbrev pub ComesWithout : PagesFault → Outcome → Type 0
-ComesWithout fault (Ended status) = (status ≡ Memory) × (fault ≡ Pages.Memory)
-ComesWithout fault (Refused other) = ⊥
-ComesWithout fault (Misread other) = (other ≡ fault) × (fault ≡ Pages.Memory → ⊥)

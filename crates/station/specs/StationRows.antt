@@ -5,8 +5,6 @@ use Rattle.subscribers.specs.Parts.{Parts}
 use Rattle.wires.specs.Files.{Files}
 use Rattle.wires.specs.Left.{Left}
 use Rattle.wires.specs.Written.{Written}
-use Rattle.station.specs.declared.opening.Unopened.{Unopened}
-use Rattle.station.specs.declared.opening.Unopened.TheVariants as NotOpened
 use Rattle.station.specs.declared.outcomes.Outcome.{Outcome}
 use Rattle.station.specs.declared.outcomes.Outcome.TheVariants.{Ended, Misread, Refused}
 use Rattle.endings.specs.declared.statuses.Status.{Status}
@@ -76,9 +74,3 @@ TrialRow settings noise capcodes input0 input old new out0 out (Ended Memory) = 
 TrialRow settings noise capcodes input0 input old new out0 out (Ended FileFault) =
     (Unreadable settings old new × (input ≡ input0) × (out ≡ out0)) ⊎ TriedBy settings noise capcodes input0 input old new out0 out FileFault
 TrialRow settings noise capcodes input0 input old new out0 out (Ended status) = TriedBy settings noise capcodes input0 input old new out0 out status
-
--- what a command without settings comes to, by why it has none
-abbrev pub ComesTo : Unopened → Outcome → Type 0
-ComesTo NotOpened.Fault outcome = outcome ≡ Ended FileFault
-ComesTo NotOpened.Memory outcome = outcome ≡ Ended Memory
-ComesTo (NotOpened.Refused fault) outcome = outcome ≡ Refused fault

@@ -11,10 +11,8 @@ use crate::document::Entry;
 use crate::faults::SettingsFault;
 use crate::subscriber::Subscriber;
 use codeword::{Capcode, Function};
+use entry_line::characters::MOST_DIGITS;
 use std::alloc::Global;
-
-/// An id has at most this many digits.
-const MOST_DIGITS: usize = 10;
 
 /// Whether all bytes are digits.
 fn are_digits(text: &[u8]) -> bool

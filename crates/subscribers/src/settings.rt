@@ -12,6 +12,7 @@ use crate::document::{Document, document_from};
 use crate::entries::directory_from;
 use crate::faults::SettingsFault;
 use crate::subscriber::Subscriber;
+use entry_line::characters::PASSWORD_SIZE;
 use std::alloc::Global;
 use std::marker::Model;
 use toml::Table;
@@ -24,9 +25,6 @@ pub const MOST_CELLS: u32 = 65_536;
 
 /// There are at most this many subscribers.
 pub const MOST_SUBSCRIBERS: usize = 10_000;
-
-/// The characters of a password.
-pub const PASSWORD_SIZE: usize = 6;
 
 /// The settings that a file gives.
 #[derive(Drop)]

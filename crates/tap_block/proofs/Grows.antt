@@ -11,7 +11,8 @@ use Rattle.tap_block.specs.Reading.{Mode, BeforeLogon, AfterLogon, InputPiece, l
 use Rattle.tap_block.specs.Brief.{Brief, in_line, between, after_eot, in_body, in_trailer, ScannerState, IsTrailerFront, InBody, InTrailer, IsBrief, ScannerStandsFor, answer_of, BodyIs, ReadsOn}
 use Rattle.entry_line.specs.Kept.{push_within}
 use Rattle.tap_block.specs.Step.{ScannerStepped, silent, brief_by, begin_item, end_body, more_body, is_whole, end_block, step_by, scanner_step}
-use Rattle.tap_block.proofs.Fronts.{kept_push, line_short, sum_push, take_push}
+use Rattle.tap_block.proofs.Fronts.{kept_push, line_short, sum_push}
+use Rattle.entry_line.proofs.Bounds.{take_push}
 use Rattle.tap_block.proofs.OneReading.{goes_on, mode_at-append}
 use Rattle.tap_block.proofs.First.{first_piece, trailer_cut, body_cut, no_piece, not_equal, equal, body_skipped, by_test, line_none, all_push}
 

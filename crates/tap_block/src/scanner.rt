@@ -24,7 +24,7 @@ use crate::ends::End;
 use crate::items::Item;
 use crate::{LONGEST_BODY, TRAILER};
 use arrayvec::ArrayVec;
-use entry_line::characters::{CR, LF};
+use entry_line::characters::{CR, LF, PASSWORD_SIZE};
 use entry_line::kept::push_within;
 use std::marker::Model;
 
@@ -33,9 +33,6 @@ const LINE_KEPT: usize = 11;
 
 /// The length that stands for all bodies that are too long.
 const TOO_LONG: u32 = 251;
-
-/// How many characters a password has.
-const PASSWORD: usize = 6;
 
 /// Where a scanner stands: what has been read since the last item.
 #[derive(Clone, Copy)]
@@ -55,7 +52,7 @@ enum Place {
 /// Reads the entry line, one byte at a time. A contract sees it as what it keeps (`ScannerState`).
 #[derive(Drop)]
 pub struct Scanner {
-    password: Option<[u8; PASSWORD]>,
+    password: Option<[u8; PASSWORD_SIZE]>,
     place: Place,
     /// The first characters of the line, without LF.
     line: ArrayVec<u8, LINE_KEPT>,
@@ -84,7 +81,7 @@ impl Model for Scanner {
 
 impl Scanner {
     /// Starts before logon. With a password only the logon with it counts, and without one every logon.
-    pub fn new(password: Option<[u8; PASSWORD]>) -> Scanner
+    pub fn new(password: Option<[u8; PASSWORD_SIZE]>) -> Scanner
         ensures password { result.password ≡ password }
         ensures stands { ScannerStandsFor BeforeLogon result [] [] }
     {
@@ -255,7 +252,7 @@ fn is_right(trailer: &[u8], total: u32) -> bool
 }
 
 /// The item of a line without LF and CR.
-fn line_item(password: &Option<[u8; PASSWORD]>, line: &[u8]) -> Item
+fn line_item(password: &Option<[u8; PASSWORD_SIZE]>, line: &[u8]) -> Item
     ensures { result ≡ answer_of (line_item password.now line.now) }
 {
     match line {
@@ -266,11 +263,11 @@ fn line_item(password: &Option<[u8; PASSWORD]>, line: &[u8]) -> Item
 }
 
 /// Whether this is the password, or where there is none, whether it is none or has six characters.
-fn is_password(password: &Option<[u8; PASSWORD]>, word: &[u8]) -> bool
+fn is_password(password: &Option<[u8; PASSWORD_SIZE]>, word: &[u8]) -> bool
     ensures { result ≡ is_password_word password.now word.now }
 {
     match password {
-        None => word.is_empty() || word.len() == PASSWORD,
-        Some(password) => word.len() == PASSWORD && word == password.as_slice(),
+        None => word.is_empty() || word.len() == PASSWORD_SIZE,
+        Some(password) => word.len() == PASSWORD_SIZE && word == password.as_slice(),
     }
 }

@@ -8,7 +8,7 @@ ghost use Rattle.tap_entry.specs.Signs.{PagesUpTo, StopsAt};
 
 use crate::faults::PagesFault;
 use crate::lines::{PageLine, first_line, page_line};
-use crate::logon::PASSWORD_SIZE;
+use entry_line::characters::PASSWORD_SIZE;
 use std::alloc::Global;
 use std::marker::Model;
 

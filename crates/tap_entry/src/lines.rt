@@ -6,11 +6,10 @@ ghost use Rattle.tap_entry.specs.Client.{PageToSend};
 ghost use Rattle.tap_entry.specs.Seen.{seen_page};
 ghost use Rattle.tap_entry.specs.Signs.{BeginsId, BeginsPage, is_visible, first_line_at, password_at};
 
-use crate::logon::PASSWORD_SIZE;
 use crate::signs::text_line;
-use crate::transfer::{LONGEST_TEXT, MOST_DIGITS};
+use crate::transfer::LONGEST_TEXT;
 use arrayvec::ArrayVec;
-use entry_line::characters::{LF, SPACE};
+use entry_line::characters::{LF, MOST_DIGITS, PASSWORD_SIZE, SPACE};
 
 /// A page that was read.
 #[derive(Drop)]

@@ -8,17 +8,12 @@ ghost use Rattle.tap_entry.specs.declared.hearing.Mark.{Mark};
 
 use crate::hearing::{Listener, Mark};
 use crate::transfer::LoggedOn;
-use entry_line::characters::CR;
+use entry_line::characters::{CR, PASSWORD_SIZE};
 use std::marker::Model;
-
-/// Escape, which begins a logon line.
-const ESC: u8 = 0x1B;
+use tap_block::control::ESC;
 
 /// The logon line is refused at most this many times before the client is refused with it.
 const MOST_REFUSALS: u8 = 2;
-
-/// The characters of a password.
-pub const PASSWORD_SIZE: usize = 6;
 
 /// The characters of a logon line without a password: `ESC PG1` and CR.
 const SHORTEST_LOGON: usize = 5;

@@ -15,6 +15,7 @@ use crate::goodbye::Leaving;
 use crate::hearing::{Listener, Mark};
 use crate::outcomes::Outcome;
 use arrayvec::ArrayVec;
+use entry_line::characters::MOST_DIGITS;
 use std::marker::Model;
 use tap_block::{End, LONGEST_BODY, escape_into, put_block};
 use wires::Failed;
@@ -22,9 +23,6 @@ use wires::sink::Sink;
 
 /// Carriage return, which ends each field of a content.
 const CR: u8 = 0x0D;
-
-/// The most digits of an id.
-pub const MOST_DIGITS: usize = 10;
 
 /// The most characters of a text.
 pub const LONGEST_TEXT: usize = 400;

@@ -2,7 +2,7 @@ use Rattle.std.proofs.Common.{[], suc, take, drop, sym, ◌∙◌}
 use Rattle.tap_block.specs.Chars.{characters}
 use Rattle.tap_block.specs.Reading.{AfterLogon}
 use Rattle.station.proofs.LoneBlocks.{breaks, characters-at}
-use Rattle.station.proofs.blocks.is_silent.Goals as goal
+use Rattle.station.proofs.one_page.is_silent.Goals as goal
 
 pub returns-then-is_some-clause-broken : goal.returns-then-is_some-clause-broken
 returns-then-is_some-clause-broken c f stands =

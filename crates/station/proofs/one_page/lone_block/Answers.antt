@@ -7,7 +7,7 @@ use Rattle.tap_block.specs.Chars.{characters}
 use Rattle.tap_block.specs.Reading.{AfterLogon}
 use Rattle.station.proofs.LoneBlocks.{block_answer, fed_before, last_answers, lone_form, makes_block, same_between, size_is, stays_silent, kept_body}
 use Rattle.station.specs.Silent.{BreaksSilence}
-use Rattle.station.proofs.blocks.lone_block.Goals as goal
+use Rattle.station.proofs.one_page.lone_block.Goals as goal
 
 pub returns-then-not-is_silent : goal.returns-then-not-is_silent
 returns-then-not-is_silent c body trailer l =

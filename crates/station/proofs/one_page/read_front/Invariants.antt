@@ -1,6 +1,6 @@
 use Rattle.std.proofs.Common.{◌≤◌, ◌-◌, length, take}
 use Rattle.wires.specs.Left.{Took}
-use Rattle.station.proofs.input.read_front.Given as goal
+use Rattle.station.proofs.one_page.read_front.Given as goal
 
 abbrev pub invariant-loop-count : goal.invariant-loop-count
 invariant-loop-count g l = record {

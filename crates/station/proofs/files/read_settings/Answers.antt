@@ -1,5 +1,5 @@
 use Rattle.station.proofs.SettingsRead.{no_settings, read_settings}
-use Rattle.station.proofs.opening.read_settings.Goals as goal
+use Rattle.station.proofs.files.read_settings.Goals as goal
 
 pub returns-in-Ok-read : goal.returns-in-Ok-read
 returns-in-Ok-read g c =

@@ -2,7 +2,7 @@ use Rattle.std.proofs.Common.{take, sym, subst, List, ℕ}
 use Rattle.wires.specs.Left.{Took}
 use Rattle.wires.proofs.Left.{Took-from_take, Took-then}
 use Rattle.station.proofs.Fronts.{take-more, within-more}
-use Rattle.station.proofs.input.read_front.Goals as goal
+use Rattle.station.proofs.one_page.read_front.Goals as goal
 
 pub loop-count-preserved : goal.loop-count-preserved
 loop-count-preserved g c =

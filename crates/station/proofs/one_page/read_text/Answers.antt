@@ -2,7 +2,7 @@ use Rattle.std.proofs.Common.{sym, ◌∙◌, ap, arith, length, length-append, 
 use Rattle.entry_line.specs.Chars.{cr}
 use Rattle.tap_block.specs.Fields.{HasFault, HasValue}
 use Rattle.station.proofs.ReadTexts.{failed_with, held_with, no_first, no_fit, no_second_value, not_ok, ok_of}
-use Rattle.station.proofs.texts.read_text.Goals as goal
+use Rattle.station.proofs.one_page.read_text.Goals as goal
 
 pub returns-then-is_err : goal.returns-then-is_err
 returns-then-is_err c text h =

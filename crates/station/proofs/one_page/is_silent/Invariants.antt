@@ -2,7 +2,7 @@ use Rattle.std.proofs.Common.{◌≡◌, [], take}
 use Rattle.tap_block.specs.Brief.{ScannerStandsFor}
 use Rattle.tap_block.specs.Chars.{characters}
 use Rattle.tap_block.specs.Reading.{AfterLogon}
-use Rattle.station.proofs.blocks.is_silent.Given as goal
+use Rattle.station.proofs.one_page.is_silent.Given as goal
 
 abbrev pub invariant-loop-c : goal.invariant-loop-c
 invariant-loop-c l = record {
