@@ -1,4 +1,4 @@
-//! What every entry line shares, whatever its protocol: docs/profile.md, "entry line".
+//! What both entry lines share, whatever their protocol: docs/profile.md, "characters" and "length of a session".
 //!
 //! | module | what it holds |
 //! |---|---|

@@ -1,4 +1,4 @@
--- The pages_in_order that are heard in slots near those of a schedule.
+-- The pages that are heard in slots near those of a schedule.
 use Rattle.std.proofs.Common.{◌≡◌, ℕ, zero, suc, ◌+◌, ◌^◌, ◌<◌, ◌≤◌, nat_le, Bool, true, false, ◌&&◌, cond, List, [], ◌∷◌, ◌++◌, length, take, drop, map, Option, Some, None, option_map, arith, refl, sym, ◌∙◌, ap, ap₂, subst, inl, inr, append-nil, le-leb, lit<}
 use Rattle.std.specs.List.{filter, All}
 use Rattle.std.proofs.lemmas.Bool.{cases_Bool, and_left, both_ways}
@@ -124,7 +124,7 @@ near_kinds (u ∷ us) (w ∷ ws) c near =
     ap₂ (λ (x : Option WordKind) (xs : List (Option WordKind)). x ∷ xs)
     (near_kind u w (All-head IsCodeword u us c) near.0 near.1) (near_kinds us ws (All-tail IsCodeword u us c) near.2)
 
--- ---- pages_in_order of what words say
+-- ---- pages of what words say
 
 unfoldable pub to_address : List (Option WordKind) → Option (List ℕ)
 to_address [] = None
@@ -187,7 +187,7 @@ placed front (Run page ∷ rest) start e h =
       placed (front ++ Run page ∷ []) rest (suc start + length (groups page.function page.text)) (omega (arith, p, r, e)) (whole-later front (Run page) rest h),
     )
 
--- ---- the pages_in_order of pieces
+-- ---- the pages of pieces
 
 -- pieces begin with an address word
 kinds_begin : (before : List PlanPiece) → to_address (kinds_of (before ++ Idle ∷ [])) ≡ Some []
@@ -247,7 +247,7 @@ pages_of_pieces listens start (Run page ∷ before) u p h =
     ∙ ap (λ (ys : List Page). map with_text (page_with listens start (Some (Address (high_of page.capcode) page.function)) (Some gs)) ++ ys) ih
     ∙ run_page listens start page (filter (λ page. listens page.capcode) (pages_in_order (before ++ Idle ∷ []))) p.0 a
 
--- ---- the pages_in_order that a test keeps
+-- ---- the pages that a test keeps
 
 filter_step : (p q : Page → Bool) (x : Page) (xs : List Page) → (p x ≡ true → q x ≡ true) → filter p (filter q xs) ≡ filter p xs
     → filter p (filter q (x ∷ xs)) ≡ filter p (x ∷ xs)
@@ -263,12 +263,12 @@ filter_inner : (p q : Page → Bool) (xs : List Page) → ((x : Page) → p x �
 filter_inner p q [] h = refl
 filter_inner p q (x ∷ xs) h = filter_step p q x xs (h x) (filter_inner p q xs h)
 
--- a test that only pages_in_order of one frame pass, to capcodes that are listened to
+-- a test that only pages of one frame pass, to capcodes that are listened to
 pub record IsKept (listens : ℕ → Bool) (f : ℕ) (kept : Page → Bool) : Type 0 where
   pub frame : (page : Page) → kept page ≡ true → in_frame f page ≡ true
   pub heard : (page : Page) → kept page ≡ true → listens page.capcode ≡ true
 
--- What is heard in slots near those of a schedule: of the pages_in_order that such a test keeps, those that were accepted, in order.
+-- What is heard in slots near those of a schedule: of the pages that such a test keeps, those that were accepted, in order.
 pub schedule_pages : (listens : ℕ → Bool) (accepted : List Page) (slots ws : List ℕ) → AreUsable listens → All IsAcceptable accepted
     → IsSchedule accepted slots → AreNear slots ws
     → (f : ℕ) (kept : Page → Bool) → IsKept listens f kept → filter kept (map with_text (pages_from listens 0 ws)) ≡ filter kept accepted

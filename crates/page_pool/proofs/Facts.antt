@@ -30,7 +30,7 @@ own links hs c = let e = cells_for-suc (head hs c).length in (walk (link_of link
 abbrev page_of : List ℕ → List ℕ → Fixed → Page
 page_of bytes cells f = record { capcode = capcode_in f.address; function = function_in f.address; text = text_in_cells bytes cells f.length }
 
--- a page stays where its head, its cells and its text_in_cells stay
+-- a page stays where its head, its cells and its text stay
 pub page-same : (bytes bytes' links links' : List ℕ) (hs hs' : List Head) (c : ℕ) → fixed (head hs' c) ≡ fixed (head hs c)
     → places links' hs' c ≡ places links hs c → text_in_cells bytes' (places links hs c) (head hs c).length ≡ text_in_cells bytes (places links hs c) (head hs c).length
     → page_at bytes' links' hs' c ≡ page_at bytes links hs c

@@ -26,7 +26,7 @@ map_split g (x ∷ xs) (d ∷ b) e a h =
     let s = map_split g xs b e a t in
     record { front = x ∷ s.front; c = s.c; back = s.back; is = ap (λ l. x ∷ l) s.is; named = s.named }
 
--- how long a text_in_cells is
+-- how long a text is
 pub length-text : (bytes cells : List ℕ) (n : ℕ) → length (text_in_cells bytes cells n) ≡ n
 length-text bytes cells n = length-map-range_with_len (byte_at bytes cells) 0 n
 

@@ -128,7 +128,7 @@ module _ (s : Inside) (r : PoolHolds s) (w : Pool) (v : view_of s ≡ w) (capcod
   others' : (q : ℕ) → times q (walk (link_of s.links.items) (suc j.0) s.free) ≡ 0 → (i : ℕ) → i < 32 → get_or bytes' (32 * q + i) 0 ≡ get_or s.bytes.items (32 * q + i) 0
   others' q none i h = others q (ap (times q) cells0 ∙ none) i h ∙ ap (λ z. get_or z (32 * q + i) 0) b0_is
 
-  -- its text_in_cells
+  -- its text
   written' : text_in_cells bytes' (walk (link_of s.links.items) (suc j.0) s.free) (length t) ≡ t
   written' = ap (λ z. text_in_cells bytes' z (length t)) (sym cells0) ∙ written
 

@@ -20,7 +20,7 @@ short Tone1 text_in_cells f = omega (arith, ap length f)
 short Tone2 text_in_cells f = omega (arith, ap length f)
 short Alpha text_in_cells f = f.short
 
--- a text_in_cells that fits its function has at most 400 characters
+-- a text that fits its function has at most 400 characters
 pub fits-short : (p : Page) → FitsPage p → length p.text ≤ 400
 fits-short p f = short p.function p.text f
 
@@ -28,7 +28,7 @@ fits-short p f = short p.function p.text f
 pub cells_for-suc : (n : ℕ) → (m : ℕ) × (cells_for n ≡ suc m)
 cells_for-suc n = (cells_for n - 1, omega arith)
 
--- a byte of a text_in_cells lies in its cells
+-- a byte of a text lies in its cells
 pub cells_for-enough : (n i : ℕ) → i < n → i / 32 < cells_for n
 cells_for-enough n i h = omega (arith, h)
 
@@ -44,7 +44,7 @@ map-range_same f g a (suc n) h =
 abbrev pub SameCells : List ℕ → List ℕ → List ℕ → Type 0
 SameCells old new cells = (k : ℕ) → 0 < times k cells → (j : ℕ) → j < 32 → get_or new (32 * k + j) 0 ≡ get_or old (32 * k + j) 0
 
--- a text_in_cells stays where its bytes stay
+-- a text stays where its bytes stay
 pub text-same : (old new cells : List ℕ) (n : ℕ) → SameCells old new cells → length cells ≡ cells_for n → text_in_cells new cells n ≡ text_in_cells old cells n
 text-same old new cells n same size =
     map-range_same (byte_at old cells) (byte_at new cells) 0 n
@@ -55,7 +55,7 @@ text-same old new cells n same size =
 pub step_in : (f : ℕ → ℕ) (n c k : ℕ) → k < n → 0 < times (cell_behind f k c) (walk f n c)
 step_in f n c k h = subst (λ z. 0 < times z (walk f n c)) (get_or-walk f n c k 0 h) (times-read (walk f n c) k 0 (omega (arith, h, length-walk f n c)))
 
--- two bytes of a text_in_cells lie at two places
+-- two bytes of a text lie at two places
 pub bytes_apart : (cells : List ℕ) (k i : ℕ) → ((c : ℕ) → times c cells ≤ 1) → i / 32 < length cells → k < i
     → 32 * get_or cells (k / 32) 0 + k % 32 ≢ 32 * get_or cells (i / 32) 0 + i % 32
 bytes_apart cells k i one l h e =
@@ -84,7 +84,7 @@ others_more bytes cells i a v l at k none j h =
     let p : 0 < times (get_or cells (i / 32) 0) cells = times-read cells (i / 32) 0 l in
     let p' : 0 < times k cells = subst (λ z. 0 < times z cells) q p in omega (arith, p', none))
 
--- the text_in_cells that was written
+-- the text that was written
 pub text_is : (bytes cells chars : List ℕ) → ((k : ℕ) → k < length chars → byte_at bytes cells k ≡ get_or chars k 0) → text_in_cells bytes cells (length chars) ≡ chars
 text_is bytes cells chars h = sym (fill_by_all (byte_at bytes cells) chars (length chars) 0 refl (λ k l. sym (h k l)))
 

@@ -64,7 +64,7 @@ ends frames f = get_or frames f (record { first = 0; last = 0 })
 abbrev pub link_of : List ℕ → ℕ → ℕ
 link_of links c = get_or links c 0
 
--- the cells from one on that a text_in_cells of so many characters takes
+-- the cells from one on that a text of so many characters takes
 abbrev pub cells_from : List ℕ → ℕ → ℕ → List ℕ
 cells_from links c n = walk (link_of links) (cells_for n) c
 
@@ -76,11 +76,11 @@ KeepsOthers old new cells = (k : ℕ) → times k cells ≡ 0 → (j : ℕ) → 
 abbrev pub places : List ℕ → List Head → ℕ → List ℕ
 places links hs c = cells_from links c (head hs c).length
 
--- byte i of a text_in_cells that lies in these cells
+-- byte i of a text that lies in these cells
 abbrev pub byte_at : List ℕ → List ℕ → ℕ → ℕ
 byte_at bytes cells i = get_or bytes (32 * get_or cells (i / 32) 0 + i % 32) 0
 
--- so many characters of a text_in_cells that lies in these cells
+-- so many characters of a text that lies in these cells
 abbrev pub text_in_cells : List ℕ → List ℕ → ℕ → List ℕ
 text_in_cells bytes cells n = map (byte_at bytes cells) (range_with_len 0 n)
 
@@ -165,7 +165,7 @@ pub record IsRegion (bytes links : List ℕ) (hs : List Head) (free spare first 
   pub total : length (used links hs order ++ unused) ≡ length hs
   -- a head has an address exactly where a live page begins
   pub live : (c : ℕ) → c < length hs → is_some (head hs c).address ≡ (cond (times c order == 0) false true)
-  -- each text_in_cells fits its function
+  -- each text fits its function
   pub fits : (c : ℕ) → 0 < times c order → FitsPage (page_at bytes links hs c)
   -- a link and 32 bytes for each head, which are 1 to 65,536
   pub links_cells : length links ≡ length hs

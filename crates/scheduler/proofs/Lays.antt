@@ -10,7 +10,7 @@ use Rattle.scheduler.specs.Plan.{is_done, without_first}
 use Rattle.scheduler.proofs.Frames.{true_or_false, filter-yes, filter-no, none_left, first_in_frame, filter-without_first, IsPermutation-without_first}
 use Rattle.scheduler.proofs.Pieces.{place-run}
 
--- These are the pieces from a place on, while these pages_in_order wait. The flag says whether the place before is idle.
+-- These are the pieces from a place on, while these pages wait. The flag says whether the place before is idle.
 pub data Lays : ℕ → List Page → Bool → List PlanPiece → Type 0 where
   stop : {start : ℕ} → start % 16 ≡ 0 → Lays start [] true []
   wait : {start : ℕ} {waiting : List Page} {idle : Bool} {pieces : List PlanPiece} → filter (in_frame (frame_at start)) waiting ≡ []
@@ -52,7 +52,7 @@ lays_whole start waiting idle pieces (send {pieces = rest} sent more first r) (R
     let at : start + length (run sent) + place front ≡ start + place (Run other ∷ front) = omega (arith, place-run other front, i) in
     ap frame_at (sym at) ∙ lays_whole (start + length (run sent)) _ false rest r front page after e'
 
--- Fair: each frame's pages_in_order run in the order in which they waited
+-- Fair: each frame's pages run in the order in which they waited
 pub lays_fair : (start : ℕ) (waiting : List Page) (idle : Bool) (pieces : List PlanPiece) → Lays start waiting idle pieces
     → (f : ℕ) → filter (in_frame f) (pages_in_order pieces) ≡ filter (in_frame f) waiting
 lays_fair start waiting idle pieces (stop h) f = refl

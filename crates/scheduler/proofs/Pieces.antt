@@ -1,10 +1,10 @@
--- The words, the pages_in_order and the place of pieces.
+-- The words, the pages and the place of pieces.
 use Rattle.std.proofs.Common.{◌≡◌, ◌+◌, List, [], ◌∷◌, ◌++◌, length, refl, sym, ◌∙◌, ap, append_assoc, length-append}
 use Rattle.codeword.specs.declared.words.TheConstants.{IDLE}
 use Rattle.page_text.specs.Page.{Page}
 use Rattle.scheduler.specs.Slots.{PlanPiece, Idle, Run, run, words, pages_in_order, place}
 
--- the pages_in_order of pieces one after another
+-- the pages of pieces one after another
 pub pages-append : (xs ys : List PlanPiece) → pages_in_order (xs ++ ys) ≡ pages_in_order xs ++ pages_in_order ys
 pages-append [] ys = refl
 pages-append (Idle ∷ xs) ys = pages-append xs ys

@@ -1,4 +1,4 @@
--- The pieces that meet the four conditions are determined by the accepted pages_in_order.
+-- The pieces that meet the four conditions are determined by the accepted pages.
 use Rattle.std.proofs.Common.{◌≡◌, ℕ, ◌+◌, ◌*◌, List, [], ◌∷◌, ◌++◌, refl, sym, ◌∙◌, ap, subst, append_assoc}
 use Rattle.std.specs.List.{filter}
 use Rattle.std.proofs.lemmas.List.{append_cancel_left, append-nil}

@@ -15,7 +15,7 @@ use Rattle.scheduler.specs.declared.sendings.Before.{Before}
 use Rattle.scheduler.specs.declared.sendings.Before.TheVariants.{Idle, RunEnd, InRun}
 use Rattle.scheduler.specs.declared.sendings.Sending.{Sending}
 
--- the first of some pages_in_order
+-- the first of some pages
 abbrev first_or_none : List Page → Page
 first_or_none [] = record { capcode = 0; function = Numeric; text = [] }
 first_or_none (page ∷ more) = page
@@ -77,20 +77,20 @@ pub record IsSendingOf (s : Sending) (w : Pool) : Type 0 where
   pub in_batch : s.place < 16
   pub in_run : HasRun w s.before s.text.items
 
--- What was given of a transmission of the accepted pages_in_order, and which of them are held: whole pieces came before the run under way, and
--- what the pool holds are the accepted pages_in_order without those whose runs are whole.
+-- What was given of a transmission of the accepted pages, and which of them are held: whole pieces came before the run under way, and
+-- what the pool holds are the accepted pages without those whose runs are whole.
 pub record SendingStandsAt (accepted : List Page) (given : List Slot) (w : Pool) (place : ℕ) (last : Before) : Type 0 where
   pub before : List PlanPiece
   pub layout : IsLayout accepted (before ++ pieces_to_come w place last)
   pub given_is : given ≡ slots_of_pieces before ++ begun w last
   pub held : live_pages w ≡ still (pages_in_order before) accepted
 
--- These are the live pages_in_order of before without some of them, in their order: each that stays has its ticket and its places.
+-- These are the live pages of before without some of them, in their order: each that stays has its ticket and its places.
 unfoldable pub AreLeft : List Live → List Live → Type 0
 AreLeft [] new = new ≡ []
 AreLeft (e ∷ old) new = AreLeft old new ⊎ ((rest : List Live) × (new ≡ e ∷ rest) × AreLeft old rest)
 
--- what stays of a pool while pages_in_order are taken out of it: its cells, what stands in them, and the pages_in_order that aren't taken
+-- what stays of a pool while pages are taken out of it: its cells, what stands in them, and the pages that aren't taken
 pub record KeepsPool (old new : Pool) : Type 0 where
   pub cells : cells new ≡ cells old
   pub region : new.region ≡ old.region
@@ -101,7 +101,7 @@ abbrev pub IsPart : List Slot → List PlanPiece → Type 0
 IsPart part pieces = (part ≡ []) ⊎ ((page : Page) × (behind : List PlanPiece) × (rest : List Slot) × (pieces ≡ Run page ∷ behind)
     × (run_slots page ≡ part ++ rest) × (rest ≢ []))
 
--- These slots were given of a transmission of the accepted pages_in_order, and these pages_in_order are held: the accepted ones, in order, without
+-- These slots were given of a transmission of the accepted pages, and these pages are held: the accepted ones, in order, without
 -- those whose runs are whole among the slots.
 pub record HeldPages (accepted : List Page) (given : List Slot) (held : List Page) : Type 0 where
   pub before : List PlanPiece

@@ -31,7 +31,7 @@ words [] = []
 words (Idle ∷ rest) = IDLE ∷ words rest
 words (Run page ∷ rest) = run page ++ words rest
 
--- the pages_in_order in the order of their runs
+-- the pages in the order of their runs
 abbrev pub pages_in_order : List PlanPiece → List Page
 pages_in_order [] = []
 pages_in_order (Idle ∷ rest) = pages_in_order rest
@@ -47,7 +47,7 @@ pub record IsLayout (accepted : List Page) (pieces : List PlanPiece) : Type 0 wh
   pub once : IsPermutation accepted (pages_in_order pieces)
   pub whole : (before : List PlanPiece) (page : Page) (after : List PlanPiece) → pieces ≡ before ++ Run page ∷ after
       → frame_at (place before) ≡ frame page
-  -- Fair: each frame's pages_in_order, in the order of their runs, are its pages_in_order in accepted order.
+  -- Fair: each frame's pages, in the order of their runs, are its pages in accepted order.
   pub fair : (f : ℕ) → filter (in_frame f) (pages_in_order pieces) ≡ filter (in_frame f) accepted
   -- Prompt: where a place of a frame is idle, the run of every page of the frame starts before it.
   pub prompt : (before after : List PlanPiece) → pieces ≡ before ++ Idle ∷ after
@@ -59,7 +59,7 @@ pub record IsLayout (accepted : List Page) (pieces : List PlanPiece) : Type 0 wh
   pub no_sooner : (before after : List PlanPiece) (b : ℕ) → pieces ≡ before ++ Idle ∷ after → place before + 1 ≡ 16 * b
       → pages_in_order after ≡ [] → after ≡ []
 
--- these are the slots of a transmission of the accepted pages_in_order
+-- these are the slots of a transmission of the accepted pages
 pub record IsSchedule (accepted : List Page) (slots : List ℕ) : Type 0 where
   pub pieces : List PlanPiece
   pub layout : IsLayout accepted pieces

@@ -73,7 +73,7 @@ SameFrom k first now = (j : ℕ) → k ≤ j → now.connection j ≡ first.conn
 pub same_on : {settings : Parts} {spare : ℕ} (whole first : Line) (k : ℕ) (s : Served settings spare) → OpenedNext first s.before → IsTrue first.tells → first.opened ≡ k → SameFrom k whole first → SameFrom (k + 1) whole s.after
 same_on whole first k s o t at same = λ j le. session_others first s o t j (λ e. omega (arith, e, at, le)) ∙ same j (omega (arith, le))
 
--- an end that the terminal end_decided is no hang-up
+-- an end that the terminal decided is no hang-up
 not_hung_up : (forced : Bool) → end_decided forced ≢ HungUp
 not_hung_up true e = absurd cc
 not_hung_up false e = absurd cc

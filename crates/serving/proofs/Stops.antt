@@ -21,7 +21,7 @@ use Rattle.wires.proofs.Fronts.{front_append, front_same}
 use Rattle.serving.proofs.Steps.{all_fed, fits_now, heard_rest, session_stood, stands_on, turns_on}
 use Rattle.endings.proofs.Talks.{calm_hears, calm_says, no_cut, no_deaf, talked_cut, talked_deaf, talked_says, talked_silent}
 
--- an end that the terminal end_decided is no lost line
+-- an end that the terminal decided is no lost line
 pub not_lost : (forced : Bool) → end_decided forced ≢ LineLost
 not_lost true e = absurd cc
 not_lost false e = absurd cc

@@ -14,7 +14,7 @@ pub record StationState : Type 0 where
   pub desk : TerminalState
   pub pool : Pool
 
--- a hall is stored as the triple of its fields
+-- the state of a station is stored as the triple of its fields
 abbrev pub station_state_code : Coded StationState
 station_state_code =
     code_by (Parts × (TerminalState × Pool)) (coded× parts_code (coded× a_terminal.the_row.coded a_pool.the_row.coded))

@@ -4,8 +4,8 @@
 //! heard, and `take` feeds one byte and says its reply. So each reply is said by one call before anything further is heard. The three
 //! functions answer how the session ends, where it does.
 //!
-//! What to mind. A contract sees a station as its settings, its terminal and its pool (`specs/StationState.antt`). What a session comes to is
-//! the record `Ran` of `specs/Sessions.antt`. The terminal ends each session by its millionth character, so the loop of `talk` never
+//! What to mind. A contract sees a station as its settings, its terminal and its pool (`specs/StationState.antt`). What a session comes to
+//! is the record `Ran` of `specs/Sessions.antt`. The terminal ends each session by its millionth character, so the loop of `talk` never
 //! comes to its end.
 
 ghost use Rattle.std.specs.Prelude.{◌≡◌, ℕ, ◌≤◌, ◌∷◌, [], List, length, IsTrue, IsFalse, IfOk, Some, Option};

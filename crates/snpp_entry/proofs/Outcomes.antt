@@ -52,7 +52,7 @@ long_outcome directory spare p line h =
     let t : nat_lt 1100 (length line) ≡ true = grind (arith, nat_tests) in
     ap (λ b. cond b (without_page Command p) (by_verb directory spare p (verb_of (verb line)) (argument line))) t
 
--- it is snpp_said, and at most one page is queued
+-- it is said, and at most one page is queued
 pub record IsUsual (o : Outcome) : Type 0 where
   pub is_said : snpp_said o.answer ≡ o.answer ∷ []
   pub few : length o.pages ≤ 1

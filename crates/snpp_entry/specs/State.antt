@@ -54,7 +54,7 @@ pub record SnppStands (directory : Directory) (spare : ℕ) (t : SnppState) (x :
   pub at_end : SnppStandsAt t.over directory spare t x left
   pub report_is : t.report ≡ snpp_report_of (session directory spare x).answers (session directory spare x).pages
 
--- what is snpp_said: nothing for Nothing
+-- what is said: nothing for Nothing
 abbrev pub snpp_said : SnppAnswer → List SnppAnswer
 snpp_said Nothing = []
 snpp_said Ok = Ok ∷ []

@@ -1,4 +1,4 @@
--- A scanner_step on what is held reads on by one character.
+-- A step on what is held reads on by one character.
 use Rattle.std.proofs.Common.{◌≡◌, ◌≢◌, ℕ, ◌+◌, ◌%◌, ◌==◌, cond, Bool, true, false, not, List, [], ◌∷◌, ◌++◌, length, take, refl, ap, sym, ◌∙◌, subst, append_assoc, append-nil, arith, Option, Some, None, inl, inr, length-append}
 use Rattle.std.specs.Option.{option_to_list, option_map}
 use Rattle.std.proofs.lemmas.Bool.Decides.{eqb_tells}
@@ -78,7 +78,7 @@ quiet mode y s h = record {
   password_is = refl;
 }
 
--- the scanner_step between items
+-- the step between items
 begun : (s : ScannerState) (c : ℕ) → Grown s.password AfterLogon (c ∷ []) (silent (begin_item s c))
 begun s c =
     by_test (λ h. Grown s.password AfterLogon (c ∷ []) (silent h)) c stx _ _
@@ -114,7 +114,7 @@ whole_four (a ∷ b ∷ []) c h e = absurd (omega (arith, e))
 whole_four (a ∷ b ∷ d ∷ []) c h e = (h.0.0, h.0.1.0, h.0.1.1.0)
 whole_four (a ∷ b ∷ d ∷ f ∷ t) c h e = absurd (omega (arith, h.1))
 
--- the scanner_step in a trailer
+-- the step in a trailer
 block_ends : (s : ScannerState) (rest b : List ℕ) (size total c : ℕ) (e : End) (t : List ℕ) → InTrailer rest s.kept size total e t b → IsTrailer (t ++ c ∷ [])
     → Grown s.password AfterLogon (rest ++ c ∷ []) (end_block s size total e (t ++ c ∷ []))
 block_ends s rest b size total c e t h w = record {
@@ -131,7 +131,7 @@ block_ends s rest b size total c e t h w = record {
   ends : rest ++ c ∷ [] ≡ piece_text (block b e (t ++ c ∷ [])) ++ []
   ends = ap (λ z. z ++ c ∷ []) h.form ∙ append_assoc (stx ∷ b) (end_char e ∷ t) (c ∷ []) ∙ sym (append-nil _)
 
--- any scanner_step in a trailer
+-- any step in a trailer
 trailer_step : (s : ScannerState) (rest b : List ℕ) (size total c : ℕ) (e : End) (t : List ℕ) → InTrailer rest s.kept size total e t b
     → Grown s.password AfterLogon (rest ++ c ∷ []) (step_by s (in_trailer size total e t) c)
 trailer_step s rest b size total c e t h =
@@ -151,7 +151,7 @@ trailer_step s rest b size total c e t h =
           )))
     ]
 
--- the scanner_step in a body
+-- the step in a body
 body_step : (s : ScannerState) (rest b : List ℕ) (size total c : ℕ) → InBody rest s.kept size total b
     → Grown s.password AfterLogon (rest ++ c ∷ []) (step_by s (in_body size total) c)
 body_step s rest b size total c h =
@@ -196,7 +196,7 @@ body_step s rest b size total c h =
           password_is = g.password_is;
         }
 
--- the scanner_step behind an EOT
+-- the step behind an EOT
 eot_step : (s : ScannerState) (rest : List ℕ) (c : ℕ) → rest ≡ eot ∷ [] → Grown s.password AfterLogon (rest ++ c ∷ []) (step_by s after_eot c)
 eot_step s rest c h = rw h (by_test (λ z. Grown s.password AfterLogon (eot ∷ c ∷ []) z) c cr _ _
     (λ p. record {
@@ -239,7 +239,7 @@ line_no_body password (c ∷ l) kept = no_body (is_logon password (c ∷ l))
     no_body true = tt
     no_body false = tt
 
--- the scanner_step in a line
+-- the step in a line
 line_step : (s : ScannerState) (rest l : List ℕ) (c : ℕ) → IsBrief BeforeLogon rest s.kept (in_line l)
     → Grown s.password BeforeLogon (rest ++ c ∷ []) (step_by s (in_line l) c)
 line_step s rest l c h =
@@ -271,7 +271,7 @@ line_step s rest l c h =
       password_is = refl;
     }
 
--- the scanner_step in any place
+-- the step in any place
 pub grows : (s : ScannerState) (mode : Mode) (rest : List ℕ) (brief : Brief) (c : ℕ) → IsBrief mode rest s.kept brief
     → Grown s.password mode (rest ++ c ∷ []) (step_by s brief c)
 grows s BeforeLogon rest (in_line l) c h = line_step s rest l c h
@@ -297,7 +297,7 @@ stands_by from t password pieces rest x items e reads items_are brief_is = recor
   brief_is = subst (λ w. IsBrief (mode_at w from pieces) rest t.kept t.brief) (sym e) brief_is;
 }
 
--- what stands for x stands for one character more after a scanner_step
+-- what stands for x stands for one character more after a step
 pub stands_on : (from : Mode) (s : ScannerState) (x : List ℕ) (items : List Entry) (c : ℕ) → ScannerStandsFor from s x items
     → ReadsOn from (scanner_step s c).held x items c (scanner_step s c).answer
 stands_on from s x items c h =
@@ -315,11 +315,11 @@ stands_on from s x items c h =
     joined : (ps new : List InputPiece) (more : List Entry) → items ≡ items_of s.password ps → items_of s.password new ≡ more → items ++ more ≡ items_of s.password (ps ++ new)
     joined ps new more e f = rw (filter_map-append (item_of s.password) ps new) (rw (e, f) refl)
 
--- the password is the same after a scanner_step
+-- the password is the same after a step
 abbrev Same : ScannerState → ScannerStepped → Type 0
 Same s z = z.held.password ≡ s.password
 
--- a scanner_step keeps the password
+-- a step keeps the password
 pub step-password : (s : ScannerState) (c : ℕ) → (scanner_step s c).held.password ≡ s.password
 step-password s c = kept_by s.brief
   where

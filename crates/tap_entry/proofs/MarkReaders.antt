@@ -1,4 +1,4 @@
--- A listener goes on by one character.
+-- A reader of marks goes on by one character.
 use Rattle.std.proofs.Common.{◌≡◌, ◌≢◌, ℕ, ◌-◌, ◌≤◌, ◌<◌, ◌==◌, cond, Bool, true, false, not, ◌&&◌, List, [], ◌∷◌, ◌++◌, length, drop, take, nat_lt, refl, ap, sym, ◌∙◌, subst, append_assoc, append-nil, arith, Option, Some, None, inl, inr, length-append}
 use Rattle.std.specs.List.{filter_map}
 use Rattle.std.specs.Option.{option_to_list}

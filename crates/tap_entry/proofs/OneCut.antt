@@ -41,7 +41,7 @@ pub one_marks : (x : List ℕ) (marks others : List Mark) → AreMarks x marks �
 one_marks x marks others h k =
     h.marks_are ∙ ap (filter_map mark_of) (one_cut h.pieces h.rest k.pieces k.rest h.cuts.each k.cuts.each h.cuts.is_open k.cuts.is_open (sym h.cuts.form ∙ k.cuts.form)) ∙ sym k.marks_are
 
--- a listener that heard further characters
+-- a reader of marks that heard further characters
 record After (e : MarkReader) (x y : List ℕ) (marks : List Mark) : Type 0 where
   ear : MarkReader
   stands : ReaderStandsFor ear (x ++ y) (marks ++ heard_from e y)

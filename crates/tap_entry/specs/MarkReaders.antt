@@ -1,4 +1,4 @@
--- What a listener keeps of the characters that are no mark yet.
+-- What a reader of marks keeps of the characters that are no mark yet.
 use Rattle.entry_line.specs.Kept.{push_within}
 use Rattle.std.specs.Prelude.{◌≡◌, ℕ, ◌==◌, nat_lt, Bool, true, false, ◌&&◌, if◌then◌else◌, List, [], ◌∷◌, ◌++◌, length, take, codes, Option, Some, None}
 use Rattle.std.specs.List.{filter_map}
@@ -36,7 +36,8 @@ abbrev pub seen_from : Seen → List ℕ → Seen
 seen_from seen [] = seen
 seen_from seen (c ∷ x) = seen_from (seen_by seen c) x
 
--- The listener stands for the characters, whose marks are these: it has the first four of the rest, and how much of `ID=` the rest ends in.
+-- The reader of marks stands for the characters, whose marks are these: it has the first four of the rest, and how much of `ID=` the
+-- rest ends in.
 pub record ReaderStandsFor (ear : MarkReader) (x : List ℕ) (marks : List Mark) : Type 0 where
   pub pieces : List (List ℕ)
   pub rest : List ℕ
@@ -72,7 +73,7 @@ reader_step e c =
     else if (c == 61) && saw_id e.seen then record { ear = fresh; mark = Some Id }
     else record { ear = record { line = push_within 4 e.line c; seen = seen_by e.seen c }; mark = None }
 
--- the marks that a listener hears in characters, computed
+-- the marks that a reader of marks finds in characters, computed
 abbrev pub heard_from : MarkReader → List ℕ → List Mark
 heard_from e [] = []
 heard_from e (c ∷ x) = option_to_list (reader_step e c).mark ++ heard_from (reader_step e c).ear x

@@ -46,7 +46,7 @@ IsSign a_line_feed = Unit {0}
 IsSign a_return = Unit {0}
 IsSign (hexadecimal a b m n) = (digit_of a ≡ Some m) × (digit_of b ≡ Some n) × (16 * m + n ≤ 126)
 
--- how it is sign_written
+-- how it is written
 abbrev pub sign_written : Sign → List ℕ
 sign_written (plain c) = c ∷ []
 sign_written a_backslash = backslash ∷ backslash ∷ []
@@ -54,7 +54,7 @@ sign_written a_line_feed = backslash ∷ codes "n"
 sign_written a_return = backslash ∷ codes "r"
 sign_written (hexadecimal a b m n) = backslash ∷ codes "x" ++ a ∷ b ∷ []
 
--- the character that is char_meant
+-- the character that is meant
 abbrev pub char_meant : Sign → ℕ
 char_meant (plain c) = c
 char_meant a_backslash = backslash

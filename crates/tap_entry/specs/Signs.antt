@@ -31,7 +31,7 @@ escape_at (c ∷ x) =
     else None
 escape_at [] = None
 
--- the character that is sign_written there
+-- the character that is written there
 abbrev pub sign_at : List ℕ → Front
 sign_at (c ∷ x) = if c == backslash then escape_at x else if nat_le 32 c && nat_le c 126 then Some (c, x) else None
 sign_at [] = None
