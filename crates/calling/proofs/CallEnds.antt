@@ -21,7 +21,7 @@ use Rattle.calling.specs.declared.stages.Stage.{Stage}
 use Rattle.calling.specs.declared.stages.Stage.TheVariants.{Calling}
 use Rattle.calling.specs.declared.stages.Step.{Step}
 use Rattle.calling.specs.declared.stages.Step.TheVariants.{On, Ends}
-use Rattle.calling.specs.Conversations.{GoesOnSo, HasRoom, CallStaysOpen, IsTurnOf, IsWithinDue, CallUnderWay, deaf as is_deaf, long as is_long, mute as is_mute, silent as is_silent, through as is_through}
+use Rattle.calling.specs.Conversations.{GoesOnSo, HasRoom, CallStaysOpen, IsTurnOf, IsWithinDue, CallUnderWay, hear_failed as is_deaf, long as is_long, say_failed as is_mute, silent as is_silent, through as is_through}
 use Rattle.calling.specs.Progress.{At, Moves, logon_of_stage, outcomes_of}
 use Rattle.endings.specs.Talk.{here}
 use Rattle.calling.proofs.Calling.{early_on, early_still, fits_now, heard_first, heard_so, last_drops, said_here, turns_on, within_still}
@@ -104,9 +104,9 @@ module _ (told : FileContent) (old mid now : Line) (stage : Stage) (left : ℕ) 
         hang = m.spoke.around.hang ∙ u.hang;
       }
 
-  mute : (logon : Logon) (left2 : ℕ) (done2 : List Outcome) → left2 + 1 ≡ left → Moves told (characters u.fed ++ char_of byte ∷ []) u.said mid now done2 (Ends (Lost logon))
+  say_failed : (logon : Logon) (left2 : ℕ) (done2 : List Outcome) → left2 + 1 ≡ left → Moves told (characters u.fed ++ char_of byte ∷ []) u.said mid now done2 (Ends (Lost logon))
       → CallStaysOpen told old now (outcomes_of told logon done2) (Lost logon)
-  mute logon left2 done2 e m =
+  say_failed logon left2 done2 e m =
       let few = few2 left2 e in
       let few1 : length u.fed ≤ 999999 = few_fed left (length u.fed) u.left_is in
       let k = talked_speaks_cut {T = Unit {0}} old mid now heard u.said u.turns m.piece m.spoke.0 u.line u.open_stays m.spoke.1 in
@@ -147,7 +147,7 @@ module _ (told : FileContent) (old mid now : Line) (stage : Stage) (left : ℕ) 
   pub fed_on : (step : Step) (left2 : ℕ) (done2 : List Outcome) → left2 + 1 ≡ left → Moves told (characters u.fed ++ char_of byte ∷ []) u.said mid now done2 step → GoesOnSo told old now left2 done2 heard ahead step
   fed_on (On stage2) left2 done2 e m = goes_further stage2 left2 done2 e m
   fed_on (Ends (Over logon)) left2 done2 e m = through logon left2 done2 e m
-  fed_on (Ends (Lost logon)) left2 done2 e m = mute logon left2 done2 e m
+  fed_on (Ends (Lost logon)) left2 done2 e m = say_failed logon left2 done2 e m
 
 -- the 1,000,000th character
 pub too_many : (told : FileContent) (old now : Line) (stage : Stage) (left : ℕ) (done : List Outcome) (byte : ℕ) (heard ahead : List ℕ) (logon : Logon) → CallUnderWay told old now stage left done heard (byte ∷ ahead) → left ≡ 0 → logon ≡ logon_of_stage stage
@@ -257,9 +257,9 @@ silent {E} told old mid now stage left done heard buffer n logon u z j e =
     })
 
 -- a hear failed
-pub deaf : {E : Type 0} (told : FileContent) (old mid now : Line) (stage : Stage) (left : ℕ) (done : List Outcome) (heard buffer : List ℕ) (x : E) (logon : Logon) → CallUnderWay told old mid stage left done heard [] → Hears mid now buffer (Err x)
+pub hear_failed : {E : Type 0} (told : FileContent) (old mid now : Line) (stage : Stage) (left : ℕ) (done : List Outcome) (heard buffer : List ℕ) (x : E) (logon : Logon) → CallUnderWay told old mid stage left done heard [] → Hears mid now buffer (Err x)
     → logon ≡ logon_of_stage stage → CallStaysOpen told old now (outcomes_of told logon done) (Lost logon)
-deaf {E} told old mid now stage left done heard buffer x logon u h e =
+hear_failed {E} told old mid now stage left done heard buffer x logon u h e =
     let few : length u.fed ≤ 999999 = few_fed left (length u.fed) u.left_is in
     subst (λ l. CallStaysOpen told old now (outcomes_of told l done) (Lost l)) (sym e) (record {
       came = record {

@@ -20,7 +20,7 @@ use Rattle.calling.specs.declared.stages.Logon.TheVariants.{Pending, Granted}
 use Rattle.endings.specs.declared.statuses.Status.{Status}
 use Rattle.endings.specs.declared.statuses.Status.TheVariants.{OutFault, WireFault}
 use Rattle.calling.specs.Calls.{CallsUp, HungUp, IsDialled, NoneRose, PutLines, HasSent, SendsSo, SomeRose, WentWell, status_of}
-use Rattle.calling.specs.Conversations.{Came, HasRoom, CallStaysOpen, CallStop, CallStops, deaf as is_deaf, long as is_long, mute as is_mute, silent as is_silent, through as is_through}
+use Rattle.calling.specs.Conversations.{Came, HasRoom, CallStaysOpen, CallStop, CallStops, hear_failed as is_deaf, long as is_long, say_failed as is_mute, silent as is_silent, through as is_through}
 use Rattle.calling.specs.OutcomeLines.{all_sent, outcome_lines}
 use Rattle.calling.specs.Progress.{logon_of}
 use Rattle.endings.specs.Talk.{Grew, here}

@@ -47,13 +47,13 @@ pub data CallStop : Type 0 where
   -- nothing was left to be heard
   silent : CallStop
   -- a hear failed
-  deaf : CallStop
+  hear_failed : CallStop
   -- the marks ended the call
   through : CallStop
   -- the 1,000,000th character was heard
   long : CallStop
   -- saying a piece failed
-  mute : CallStop
+  say_failed : CallStop
 
 -- All that was heard was fed, and nothing was left.
 pub record CallInputEnded (old new : Line) (heard fed due said : List ℕ) (ending : Ending) : Type 0 where
@@ -96,10 +96,10 @@ pub record CallSayFailed (told : FileContent) (old new : Line) (fed due said : L
 -- what holds by why the call stopped
 abbrev pub CallStops : FileContent → Line → Line → List ℕ → List ℕ → List Mark → List ℕ → List ℕ → Ending → CallStop → Type 0
 CallStops told old new heard fed marks due said ending silent = CallInputEnded old new heard fed due said ending
-CallStops told old new heard fed marks due said ending deaf = CallHearFailed old new heard fed due said ending
+CallStops told old new heard fed marks due said ending hear_failed = CallHearFailed old new heard fed due said ending
 CallStops told old new heard fed marks due said ending through = IsThrough old new due said ending (EndsCall told marks)
 CallStops told old new heard fed marks due said ending long = IsThrough old new due said ending (length fed ≡ 1000000)
-CallStops told old new heard fed marks due said ending mute = CallSayFailed told old new fed due said ending
+CallStops told old new heard fed marks due said ending say_failed = CallSayFailed told old new fed due said ending
 
 -- The connection has room for what is said for each front of what is due.
 abbrev pub HasRoom : FileContent → Connection → Type 0

@@ -13,7 +13,7 @@ use Rattle.serving.specs.declared.session.SessionEnd.{SessionEnd}
 use Rattle.serving.specs.declared.session.SessionEnd.TheVariants.{HungUp, LineLost}
 use Rattle.serving.specs.InTurn.{SessionIsAt, LostRaises, WireAfter}
 use Rattle.serving.specs.Served.{AllFrom, OpenedNext, Served, ServedInTurn}
-use Rattle.serving.specs.Sessions.{SessionStop, SessionStops, deaf, end_decided, mute, silent, told}
+use Rattle.serving.specs.Sessions.{SessionStop, SessionStops, hear_failed, end_decided, say_failed, silent, told}
 use Rattle.endings.specs.Talk.{Grew, here}
 use Rattle.serving.proofs.Stops.{not_lost}
 
@@ -86,9 +86,9 @@ mute_not_hung_up false forced e = absurd cc
 all_fed : (settings : Parts) (spare : ℕ) (old new : Line) (heard fed said : List ℕ) (session : Session) (end : SessionEnd) (stop : SessionStop) → IsTrue old.tells → IsTrue old.is_open → SessionStops settings spare old new heard fed said session end stop
     → end ≡ HungUp → fed ≡ (here old).rest
 all_fed settings spare old new heard fed said session end silent t o h e = h.all ∙ sym (h.nothing_left t o)
-all_fed settings spare old new heard fed said session end deaf t o h e = let bad : LineLost ≡ HungUp = sym h.end_is ∙ e in absurd cc
+all_fed settings spare old new heard fed said session end hear_failed t o h e = let bad : LineLost ≡ HungUp = sym h.end_is ∙ e in absurd cc
 all_fed settings spare old new heard fed said session end (told answer) t o h e = absurd (not_hung_up session.forced (sym h.end_is ∙ e))
-all_fed settings spare old new heard fed said session end (mute answer n) t o h e = absurd (mute_not_hung_up (is_end answer) session.forced (sym h.end_is ∙ e))
+all_fed settings spare old new heard fed said session end (say_failed answer n) t o h e = absurd (mute_not_hung_up (is_end answer) session.forced (sym h.end_is ∙ e))
 
 at_each : {settings : Parts} {spare : ℕ} (whole first now : Line) (k : ℕ) (ss : List (Served settings spare)) → first.count ≡ whole.count → first.opened ≡ k → SameFrom k whole first → IsTrue first.tells → ServedInTurn first now ss
     → AllFrom (SessionIsAt whole now) k ss
@@ -180,16 +180,16 @@ line_then a b c h k = record { hear = went_then a.hear b.hear c.hear h.hear k.he
 
 stops_went : (settings : Parts) (spare : ℕ) (old new : Line) (heard fed said : List ℕ) (session : Session) (end : SessionEnd) (stop : SessionStop) → SessionStops settings spare old new heard fed said session end stop → LineWent old new
 stops_went settings spare old new heard fed said session end silent h = record { hear = inl h.hear; say = inl h.say }
-stops_went settings spare old new heard fed said session end deaf h = record { hear = inr h.hear; say = inl h.say }
+stops_went settings spare old new heard fed said session end hear_failed h = record { hear = inr h.hear; say = inl h.say }
 stops_went settings spare old new heard fed said session end (told answer) h = record { hear = inl h.hear; say = inl h.say }
-stops_went settings spare old new heard fed said session end (mute answer n) h = record { hear = inl h.hear; say = inr h.say }
+stops_went settings spare old new heard fed said session end (say_failed answer n) h = record { hear = inl h.hear; say = inr h.say }
 
 stops_lost : (settings : Parts) (spare : ℕ) (old new : Line) (heard fed said : List ℕ) (session : Session) (end : SessionEnd) (stop : SessionStop) → SessionStops settings spare old new heard fed said session end stop
     → end ≡ LineLost → Rose old.hear new.hear ⊎ Rose old.say new.say
 stops_lost settings spare old new heard fed said session end silent h e = let bad : HungUp ≡ LineLost = sym h.end_is ∙ e in absurd cc
-stops_lost settings spare old new heard fed said session end deaf h e = inl h.hear
+stops_lost settings spare old new heard fed said session end hear_failed h e = inl h.hear
 stops_lost settings spare old new heard fed said session end (told answer) h e = absurd (not_lost session.forced (sym h.end_is ∙ e))
-stops_lost settings spare old new heard fed said session end (mute answer n) h e = inr h.say
+stops_lost settings spare old new heard fed said session end (say_failed answer n) h e = inr h.say
 
 -- waits change none of them
 went_wait : {settings : Parts} {spare : ℕ} (first : Line) (s : Served settings spare) → OpenedNext first s.before → LineWent first s.before

@@ -13,7 +13,7 @@ use Rattle.wires.specs.Held.{Connection}
 use Rattle.wires.specs.Line.{HangsUp, Hears, Line, Says, last}
 use Rattle.serving.specs.declared.session.SessionEnd.{SessionEnd}
 use Rattle.serving.specs.declared.session.SessionEnd.TheVariants.{HungUp, LineLost}
-use Rattle.serving.specs.Sessions.{HasRoomForReplies, GoesOn, IsAnsweredLast, Ran, SessionStop, SessionStops, SessionUnderWay, deaf as is_deaf, end_decided, mute as is_mute, silent as is_silent, told as is_told}
+use Rattle.serving.specs.Sessions.{HasRoomForReplies, GoesOn, IsAnsweredLast, Ran, SessionStop, SessionStops, SessionUnderWay, hear_failed as is_deaf, end_decided, say_failed as is_mute, silent as is_silent, told as is_told}
 use Rattle.endings.specs.Talk.{Grew, here}
 use Rattle.tap_terminal.proofs.Cells.{cells_gain}
 use Rattle.serving.proofs.Decisions.{Fed, few_heard, fits_front, not_end, pages_on, replies_on, spoken}
@@ -90,10 +90,10 @@ told settings spare old mid now before pool pool2 desk desk2 byte heard ahead a 
     }
 
 -- saying the reply failed
-mute : {T E : Type 0} (settings : Parts) (spare : ℕ) (old mid now : Line) (before pool pool2 : Pool) (desk desk2 : TerminalState) (byte : ℕ) (heard ahead : List ℕ) (a : Answer) (x : E) (end : SessionEnd)
+say_failed : {T E : Type 0} (settings : Parts) (spare : ℕ) (old mid now : Line) (before pool pool2 : Pool) (desk desk2 : TerminalState) (byte : ℕ) (heard ahead : List ℕ) (a : Answer) (x : E) (end : SessionEnd)
     (u : SessionUnderWay settings spare old mid before pool desk heard (byte ∷ ahead)) (h : Fed settings spare desk2 u.fed byte u.session a pool pool2)
     → spoken_list a ≡ a ∷ [] → Says {T = T} mid now (reply_of a) (Err x) → end ≡ cond (is_end a) (end_decided h.longer.forced) LineLost → Ran settings spare old now before pool2 desk2 end
-mute {T} settings spare old mid now before pool pool2 desk desk2 byte heard ahead a x end u h one s d =
+say_failed {T} settings spare old mid now before pool pool2 desk desk2 byte heard ahead a x end u h one s d =
     let k = talked_cut {T = T} old mid now heard (replies u.session.answers) u.turns (reply_of a) x u.line u.open_stays s in
     let stands = stands_on settings spare desk2 u.fed byte u.session a pool pool2 h in
     record {
@@ -131,7 +131,7 @@ pub lost : {T E : Type 0} (settings : Parts) (spare : ℕ) (old mid now : Line) 
     → GoesOn settings spare old now before pool2 desk2 heard ahead (Some LineLost)
 lost {T} settings spare old mid now before pool pool2 desk desk2 byte heard ahead piece a x n e p u h s =
     let t : Says {T = T} mid now (reply_of a) (Err x) = subst (λ (z : List ℕ). Says {T = T} mid now z (Err x)) p s in
-    (mute {T = T} settings spare old mid now before pool pool2 desk desk2 byte heard ahead a x LineLost u h (spoken a n) t (rw (not_end a e) refl), t.uses.is_open ∙ u.open_stays, t.hang ∙ u.hang)
+    (say_failed {T = T} settings spare old mid now before pool pool2 desk desk2 byte heard ahead a x LineLost u h (spoken a n) t (rw (not_end a e) refl), t.uses.is_open ∙ u.open_stays, t.hang ∙ u.hang)
 
 -- the End was said, or saying it failed
 pub ended : {T E : Type 0} (settings : Parts) (spare : ℕ) (old mid now : Line) (before pool pool2 : Pool) (desk desk2 : TerminalState) (byte : ℕ) (heard ahead piece : List ℕ) (r : Result T E) (end : SessionEnd) → piece ≡ reply_of End
@@ -142,7 +142,7 @@ ended {T} {E} settings spare old mid now before pool pool2 desk desk2 byte heard
     (told {E = E} settings spare old mid now before pool pool2 desk desk2 byte heard ahead End x end u h refl refl t d, t.uses.is_open ∙ u.open_stays, t.hang ∙ u.hang)
 ended {T} {E} settings spare old mid now before pool pool2 desk desk2 byte heard ahead piece (Err x) end p u h s d =
     let t : Says {T = T} mid now (reply_of End) (Err x) = subst (λ (z : List ℕ). Says {T = T} mid now z (Err x)) p s in
-    (mute {T = T} settings spare old mid now before pool pool2 desk desk2 byte heard ahead End x end u h refl t d, t.uses.is_open ∙ u.open_stays, t.hang ∙ u.hang)
+    (say_failed {T = T} settings spare old mid now before pool pool2 desk desk2 byte heard ahead End x end u h refl t d, t.uses.is_open ∙ u.open_stays, t.hang ∙ u.hang)
 
 -- nothing was left to be heard
 pub silent : {E : Type 0} (settings : Parts) (spare : ℕ) (old mid now : Line) (before pool : Pool) (desk : TerminalState) (heard buffer : List ℕ) (n : ℕ) → SessionUnderWay settings spare old mid before pool desk heard [] → n ≡ 0 → Hears {E = E} mid now buffer (Ok n)
@@ -181,9 +181,9 @@ silent {E} settings spare old mid now before pool desk heard buffer n u z j =
     )
 
 -- a hear failed
-pub deaf : {E : Type 0} (settings : Parts) (spare : ℕ) (old mid now : Line) (before pool : Pool) (desk : TerminalState) (heard buffer : List ℕ) (e : E) → SessionUnderWay settings spare old mid before pool desk heard [] → Hears mid now buffer (Err e)
+pub hear_failed : {E : Type 0} (settings : Parts) (spare : ℕ) (old mid now : Line) (before pool : Pool) (desk : TerminalState) (heard buffer : List ℕ) (e : E) → SessionUnderWay settings spare old mid before pool desk heard [] → Hears mid now buffer (Err e)
     → GoesOn settings spare old now before pool desk [] [] (Some LineLost)
-deaf {E} settings spare old mid now before pool desk heard buffer e u h = (
+hear_failed {E} settings spare old mid now before pool desk heard buffer e u h = (
   record {
     heard = heard;
     fed = u.fed;

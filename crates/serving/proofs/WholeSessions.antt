@@ -21,7 +21,7 @@ use Rattle.serving.specs.declared.session.SessionEnd.{SessionEnd}
 use Rattle.serving.specs.declared.session.SessionEnd.TheVariants.{HungUp, LineLost}
 use Rattle.serving.specs.InTurn.{AllInTurn, WellServed}
 use Rattle.serving.specs.Served.{AllFrom, FitWire, IsWhole, NextFit, OpenedNext, Served, ServedInTurn, ServedWhileFit, UsedWell}
-use Rattle.serving.specs.Sessions.{HasRoomForReplies, IsAnsweredLast, SessionOf, TerminalStandsFor, SessionStop, SessionStops, deaf, end_decided, has_end_answer, mute, silent, told}
+use Rattle.serving.specs.Sessions.{HasRoomForReplies, IsAnsweredLast, SessionOf, TerminalStandsFor, SessionStop, SessionStops, hear_failed, end_decided, has_end_answer, say_failed, silent, told}
 use Rattle.endings.specs.Talk.{here}
 use Rattle.serving.proofs.Decisions.{answers_end}
 use Rattle.serving.proofs.InTurn.{SameFrom, same_on, session_keeps, session_opened, session_others, turn-lost, turn-stays, turn-within, wire_after}
@@ -88,14 +88,14 @@ all_heard settings spare left old new desk heard fed more said rest session end 
   session_is = subst (λ (x : List ℕ). SessionOf settings spare x session) (h.all ∙ (sym (h.nothing_left t o) ∙ same)) is;
   end_is = h.end_is ∙ ends_open (has_end_answer session.answers) session.forced h.no_end;
 }
-all_heard settings spare left old new desk heard fed more said rest session end deaf t o same cut is stands kept h = absurd (kept h.end_is)
+all_heard settings spare left old new desk heard fed more said rest session end hear_failed t o same cut is stands kept h = absurd (kept h.end_is)
 all_heard settings spare left old new desk heard fed more said rest session end (told answer) t o same cut is stands kept h =
     let over : has_end_answer session.answers ≡ true = has_last settings spare fed session answer h.last_answer h.is_the_end in
     record {
       session_is = subst (λ (x : List ℕ). SessionOf settings spare x session) (sym cut) (ended_stays settings spare left desk fed more session desk.stage stands.at_stage over);
       end_is = h.end_is ∙ ends_over (has_end_answer session.answers) session.forced over;
     }
-all_heard settings spare left old new desk heard fed more said rest session end (mute answer n) t o same cut is stands kept h =
+all_heard settings spare left old new desk heard fed more said rest session end (say_failed answer n) t o same cut is stands kept h =
     let e = mute_end _ end (end_decided session.forced) h.end_is kept in
     let over : has_end_answer session.answers ≡ true = has_last settings spare fed session answer h.last_answer e.0 in
     record {

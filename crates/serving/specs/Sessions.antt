@@ -54,11 +54,11 @@ pub data SessionStop : Type 0 where
   -- nothing was left to be heard
   silent : SessionStop
   -- a hear failed
-  deaf : SessionStop
+  hear_failed : SessionStop
   -- this End was said
   told : Answer → SessionStop
   -- saying the reply to this answer failed after so many of its bytes
-  mute : Answer → ℕ → SessionStop
+  say_failed : Answer → ℕ → SessionStop
 
 -- the end of a session that the terminal ended
 abbrev pub end_decided : Bool → SessionEnd
@@ -104,9 +104,9 @@ pub record SessionSayFailed (settings : Parts) (spare : ℕ) (old new : Line) (f
 -- what holds by why the session stopped
 abbrev pub SessionStops : Parts → ℕ → Line → Line → List ℕ → List ℕ → List ℕ → Session → SessionEnd → SessionStop → Type 0
 SessionStops settings spare old new heard fed said session end silent = SessionInputEnded old new heard fed said session end
-SessionStops settings spare old new heard fed said session end deaf = SessionHearFailed old new heard fed said session end
+SessionStops settings spare old new heard fed said session end hear_failed = SessionHearFailed old new heard fed said session end
 SessionStops settings spare old new heard fed said session end (told answer) = SessionToldEnd settings spare old new fed said session end answer
-SessionStops settings spare old new heard fed said session end (mute answer n) = SessionSayFailed settings spare old new fed said session end answer n
+SessionStops settings spare old new heard fed said session end (say_failed answer n) = SessionSayFailed settings spare old new fed said session end answer n
 
 -- The connection has room for the replies to all that is to be heard on it.
 abbrev pub HasRoomForReplies : Parts → ℕ → Connection → Type 0

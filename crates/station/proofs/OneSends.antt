@@ -26,7 +26,7 @@ use Rattle.calling.specs.declared.stages.Logon.TheVariants.{Pending, Granted}
 use Rattle.endings.specs.declared.statuses.Status.{Status}
 use Rattle.endings.specs.declared.statuses.Status.TheVariants.{Done, FileFault, LogonRefused, Memory, OutFault, SomeUnsent, WireFault}
 use Rattle.calling.specs.Calls.{HasCalled, HungUp, PutLines, SendsSo, status_of}
-use Rattle.calling.specs.Conversations.{IsWithinDue, CallStop, CallStops, deaf, long, mute, silent, through}
+use Rattle.calling.specs.Conversations.{IsWithinDue, CallStop, CallStops, hear_failed, long, say_failed, silent, through}
 use Rattle.station.specs.OneSend.{FitSend, OneSend}
 use Rattle.calling.specs.OutcomeLines.{all_sent, outcome_lines}
 use Rattle.calling.specs.Progress.{EndsCall, IsLogon}
@@ -110,10 +110,10 @@ same_call told rest x y marks marks2 outcomes outcomes2 said said2 logon logon2 
 over_said : (told : FileContent) (old new : Line) (c : Connection) (heard fed : List ℕ) (marks : List Mark) (due said : List ℕ) (logon : Logon) (stop : CallStop) → IsTrue old.tells → IsTrue old.is_open → here old ≡ c
     → CallStops told old new heard fed marks due said (Over logon) stop → (said ≡ due) × StoppedSo told c.rest fed marks
 over_said told old new c heard fed marks due said logon silent t o e k = (k.said_is, inl (k.all ∙ (sym (k.nothing_left t o) ∙ ap (λ (z : Connection). z.rest) e)))
-over_said told old new c heard fed marks due said logon deaf t o e k = let q = k.ending_is in cc
+over_said told old new c heard fed marks due said logon hear_failed t o e k = let q = k.ending_is in cc
 over_said told old new c heard fed marks due said logon through t o e k = (k.said_is, inr (inl k.reason))
 over_said told old new c heard fed marks due said logon long t o e k = (k.said_is, inr (inr k.reason))
-over_said told old new c heard fed marks due said logon mute t o e k = let q = k.ending_is in cc
+over_said told old new c heard fed marks due said logon say_failed t o e k = let q = k.ending_is in cc
 
 -- A call over the next connection that came to this, with what was said there.
 pub record IsCalled (told : FileContent) (old new : Line) (outcomes : List PageOutcome) (logon : Logon) : Type 0 where
