@@ -4,7 +4,7 @@ use Rattle.codeword.specs.declared.words.TheConstants.{SYNC}
 use Rattle.page_pool.specs.Pool.{Pool, pages}
 use Rattle.scheduler.specs.Said.{word_in}
 use Rattle.scheduler.specs.Sendings.{slots_to_come, IsSendingOf, SendingStandsAt}
-use Rattle.scheduler.specs.Sendings.{Gives as GivesSlot}
+use Rattle.scheduler.specs.Sendings.{GivesOneSlot as GivesSlot}
 use Rattle.scheduler.specs.declared.slots.Slot.{Slot}
 use Rattle.scheduler.specs.declared.sendings.Sending.{Sending}
 use Rattle.codeword.specs.Words.{filler}

@@ -9,7 +9,7 @@ use Rattle.page_text.specs.Fits.{Fits}
 use Rattle.page_text.specs.Groups.{groups, HasGroups}
 use Rattle.page_text.specs.Page.{Page}
 use Rattle.page_pool.specs.Pool.{Live, Pool, Names, TakesPage, Sound, IsLive}
-use Rattle.page_pool.specs.Pool.{pages as live_pages, in_frame as is_live_in}
+use Rattle.page_pool.specs.Pool.{pages as live_pages, live_in_frame as is_live_in}
 use Rattle.page_pool.proofs.Texts.{fits-short}
 use Rattle.scheduler.specs.Slots.{PlanPiece, Run, frame, in_frame}
 use Rattle.scheduler.specs.Slots.{Idle as IdlePiece}

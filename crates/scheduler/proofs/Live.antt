@@ -4,7 +4,7 @@ use Rattle.std.specs.List.{filter, find}
 use Rattle.std.specs.Option.{option_map}
 use Rattle.page_text.specs.Page.{Page}
 use Rattle.page_pool.specs.Pool.{Live, Pool, Names, TakesPage, TakesFirst, Sound, pages}
-use Rattle.page_pool.specs.Pool.{in_frame as is_live_in}
+use Rattle.page_pool.specs.Pool.{live_in_frame as is_live_in}
 use Rattle.page_pool.proofs.Laws.{find_split, found, first_taken}
 use Rattle.scheduler.specs.Slots.{frame, in_frame}
 use Rattle.scheduler.specs.Plan.{without_first}

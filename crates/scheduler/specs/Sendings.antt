@@ -5,7 +5,7 @@ use Rattle.std.specs.Option.{option_map}
 use Rattle.codeword.specs.declared.functions.Function.TheVariants.{Numeric}
 use Rattle.page_text.specs.Page.{Page}
 use Rattle.page_pool.specs.Pool.{Live, Pool, cells}
-use Rattle.page_pool.specs.Pool.{pages as live_pages, in_frame as is_live_in}
+use Rattle.page_pool.specs.Pool.{pages as live_pages, live_in_frame as is_live_in}
 use Rattle.scheduler.specs.Slots.{PlanPiece, Run, in_frame, pages_in_order, IsLayout}
 use Rattle.scheduler.specs.Plan.{without_first, pieces_from, still}
 use Rattle.scheduler.specs.Said.{messages, run_slots, slots_of_pieces, HasGroup}

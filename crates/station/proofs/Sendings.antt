@@ -3,7 +3,7 @@ use Rattle.std.proofs.Common.{◌≡◌, ℕ, Bool, List, [], ◌∷◌, drop, R
 use Rattle.std.specs.Borrow.{GName}
 use Rattle.page_text.specs.Page.{Page}
 use Rattle.air.specs.Air.{IsAir}
-use Rattle.air.specs.Sends.{Sends as AirSends}
+use Rattle.air.specs.Sends.{SendsTransmission as AirSends}
 use Rattle.wires.specs.Held.{Bytes, Held, Lent}
 use Rattle.wires.specs.Stacked.{bits_over}
 use Rattle.wires.specs.Written.{Puts, Written}
