@@ -18,10 +18,10 @@ returns-then-self-eq-LAST_CHARACTER c spare x k =
     c.if-self.false last refl refl
     (subst (λ (d : SnppState). SnppStands (directory_of c.args.settings.now) spare d x c.args.pool.now.spare) (sym c.self.view_is) k)
 
-pub returns-then-c-ne10 : goal.returns-then-c-ne10
-returns-then-c-ne10 c spare x k =
+pub returns-then-c-ne-LF : goal.returns-then-c-ne-LF
+returns-then-c-ne-LF c spare x k =
     let few : c.self.inside.heard < 999999 = (let h = c.if-self-eq-LAST_CHARACTER.false in let b = c.self.invariant.heard_bound in omega arith) in
-    let other : (char_of c.args.byte == 10) ≡ false = (let h = c.if-c-ne10.true in grind (arith, nat_tests)) in
+    let other : (char_of c.args.byte == 10) ≡ false = (let h = c.if-c-ne-LF.true in grind (arith, nat_tests)) in
     quiet_on (directory_of c.args.settings.now) spare (snpp_state_of c.self.inside) _ x (char_of c.args.byte) c.args.pool.now
     c.if-self.false few other refl refl refl c.if-self.false c.push_within.ensures c.count_within-self-inside.ensures
     (subst (λ (d : SnppState). SnppStands (directory_of c.args.settings.now) spare d x c.args.pool.now.spare) (sym c.self.view_is) k)
@@ -29,7 +29,7 @@ returns-then-c-ne10 c spare x k =
 pub returns : goal.returns
 returns c spare x k =
     let few : c.self.inside.heard < 999999 = (let h = c.if-self-eq-LAST_CHARACTER.false in let b = c.self.invariant.heard_bound in omega arith) in
-    let lf : (char_of c.args.byte == 10) ≡ true = (let h = c.if-c-ne10.false in grind (arith, nat_tests)) in
+    let lf : (char_of c.args.byte == 10) ≡ true = (let h = c.if-c-ne-LF.false in grind (arith, nat_tests)) in
     let d = snpp_state_of c.self.inside in
     line_on (directory_of c.args.settings.now) spare d _ x (char_of c.args.byte) c.answer_piece-answer.result.0 c.answer_piece-answer.result.1 c.args.pool.now c.answer_piece-answer.new.pool
     c.if-self.false few lf refl c.clear.ensures refl c.is_bye-self-inside.ensures c.count.ensures
