@@ -1,3 +1,4 @@
+pub mod Batches
 pub mod Capcodes
 pub mod Functions
 pub mod Kinds

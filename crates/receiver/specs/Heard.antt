@@ -1,8 +1,9 @@
 -- The pages that are heard in a list of bits. docs/profile.md, "page heard".
-use Rattle.std.specs.Prelude.{ℕ, suc, ◌+◌, ◌*◌, ◌/◌, ◌%◌, Bool, true, false, ◌&&◌, nat_le, List, [], ◌∷◌, ◌++◌, length, Option, Some, None, option_map, flat_map}
+use Rattle.std.specs.Prelude.{ℕ, suc, Bool, true, false, ◌&&◌, nat_le, List, [], ◌∷◌, ◌++◌, length, Option, Some, None, option_map, flat_map}
 use Rattle.codeword.specs.declared.functions.Function.{Function}
 use Rattle.codeword.specs.declared.kinds.WordKind.{WordKind}
 use Rattle.codeword.specs.declared.kinds.WordKind.TheVariants.{Address, Message}
+use Rattle.codeword.specs.Batches.{capcode_at}
 use Rattle.codeword.specs.Kinds.{kind_of}
 use Rattle.page_text.specs.Page.{Page}
 use Rattle.page_text.specs.Texts.{text_of}
@@ -18,14 +19,6 @@ pub record HeardPage : Type 0 where
 -- the page with its text
 abbrev pub with_text : HeardPage → Page
 with_text page = record { capcode = page.capcode; function = page.function; text = text_of page.function page.groups }
-
--- the frame of a slot, by its number in its stretch or by its place
-abbrev pub frame_at : ℕ → ℕ
-frame_at place = place % 16 / 2
-
--- the capcode whose high bits stand in a slot
-abbrev pub capcode_at : ℕ → ℕ → ℕ
-capcode_at place high = 8 * high + frame_at place
 
 -- what the first word says, and the groups before an address word that the words behind it give
 abbrev pub groups_with : Option WordKind → Option (List ℕ) → Option (List ℕ)
