@@ -61,8 +61,12 @@ impl CapcodeSet for Holders {
     ghost capcodes = { λ h. keys_of h };
 
     fn find(&self, number: u32) -> Option<Capcode> {
-        if self.sets.contains_key(&number) {
-            Capcode::of(number)
+        let sets = &self.sets;
+        let Some(capcode) = Capcode::of(number) else {
+            return None;
+        };
+        if sets.contains_key(&number) {
+            Some(capcode)
         } else {
             None
         }
