@@ -5,7 +5,8 @@ use Rattle.std.proofs.Math.Seq.{take-suc, take-length}
 use Rattle.page_text.specs.Page.{Page}
 use Rattle.page_pool.specs.Pool.{Pool}
 use Rattle.page_pool.specs.Pool.{pages as live_pages}
-use Rattle.scheduler.specs.Slots.{Piece, Run, run, frame, frame_at, in_frame}
+use Rattle.codeword.specs.Batches.{frame_at}
+use Rattle.scheduler.specs.Slots.{Piece, Run, run, frame, in_frame}
 use Rattle.scheduler.specs.Slots.{Idle as IdlePiece}
 use Rattle.scheduler.specs.Plan.{without_first, pieces_from}
 use Rattle.scheduler.specs.Said.{messages, run_slots, slots_in}

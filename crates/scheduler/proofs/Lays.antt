@@ -4,7 +4,8 @@ use Rattle.std.specs.List.{filter}
 use Rattle.std.specs.List.Sorted.{IsPermutation}
 use Rattle.std.proofs.lemmas.List.Sorted.{IsPermutation-refl, IsPermutation-trans, IsPermutation-cons}
 use Rattle.page_text.specs.Page.{Page}
-use Rattle.scheduler.specs.Slots.{Piece, Idle, Run, run, frame, frame_at, in_frame, pages, place, IsLayout}
+use Rattle.codeword.specs.Batches.{frame_at}
+use Rattle.scheduler.specs.Slots.{Piece, Idle, Run, run, frame, in_frame, pages, place, IsLayout}
 use Rattle.scheduler.specs.Plan.{is_done, without_first}
 use Rattle.scheduler.proofs.Frames.{true_or_false, filter-yes, filter-no, none_left, first_in_frame, filter-without_first, IsPermutation-without_first}
 use Rattle.scheduler.proofs.Pieces.{place-run}

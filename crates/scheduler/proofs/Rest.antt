@@ -2,7 +2,8 @@
 use Rattle.std.proofs.Common.{◌≡◌, ◌≢◌, ℕ, ◌+◌, ◌/◌, ◌%◌, Bool, true, false, List, [], ◌∷◌, ◌++◌, length, eqb, refl, sym, ◌∙◌, ap, subst, arith, eq-eqb, eqb-true, ◌⊎◌, inl, inr}
 use Rattle.std.specs.List.{filter}
 use Rattle.page_text.specs.Page.{Page}
-use Rattle.scheduler.specs.Slots.{Piece, Idle, Run, run, frame, frame_at, in_frame, IsLayout}
+use Rattle.codeword.specs.Batches.{frame_at}
+use Rattle.scheduler.specs.Slots.{Piece, Idle, Run, run, frame, in_frame, IsLayout}
 use Rattle.scheduler.specs.Plan.{is_done, without_first, room, pieces_from, still}
 use Rattle.scheduler.specs.Said.{run_slots, slots_in}
 use Rattle.scheduler.proofs.Lays.{Lays, stop, wait, send, at_end, lays_layout}

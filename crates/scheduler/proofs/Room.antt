@@ -3,7 +3,8 @@ use Rattle.std.proofs.Common.{◌≡◌, ◌≢◌, ℕ, zero, suc, ◌+◌, ◌
 use Rattle.std.specs.List.{filter, sum_by}
 use Rattle.std.proofs.lemmas.Bool.Decides.{eqb_tells}
 use Rattle.page_text.specs.Page.{Page}
-use Rattle.scheduler.specs.Slots.{Piece, Idle, Run, run, frame, frame_at, in_frame, place}
+use Rattle.codeword.specs.Batches.{frame_at}
+use Rattle.scheduler.specs.Slots.{Piece, Idle, Run, run, frame, in_frame, place}
 use Rattle.scheduler.specs.Plan.{is_done, without_first, some_pieces, way, room}
 use Rattle.scheduler.proofs.Frames.{true_or_false, filter-yes, size, run_size, length-without_first, sum-without_first}
 use Rattle.scheduler.proofs.Pieces.{place-run}

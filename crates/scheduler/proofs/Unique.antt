@@ -4,7 +4,8 @@ use Rattle.std.specs.List.{filter}
 use Rattle.std.proofs.lemmas.List.{append_cancel_left, append-nil}
 use Rattle.std.proofs.lemmas.List.Elements.{filter-append}
 use Rattle.page_text.specs.Page.{Page}
-use Rattle.scheduler.specs.Slots.{Piece, Idle, Run, frame, frame_at, in_frame, words, pages, place, IsLayout, IsSchedule}
+use Rattle.codeword.specs.Batches.{frame_at}
+use Rattle.scheduler.specs.Slots.{Piece, Idle, Run, frame, in_frame, words, pages, place, IsLayout, IsSchedule}
 use Rattle.scheduler.proofs.Frames.{filter-own, none_left}
 use Rattle.scheduler.proofs.Pieces.{pages-append, place-append}
 

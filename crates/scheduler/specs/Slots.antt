@@ -3,6 +3,8 @@ use Rattle.std.specs.Prelude.{◌≡◌, ℕ, ◌+◌, ◌*◌, ◌/◌, ◌%◌
 use Rattle.std.specs.List.{filter}
 use Rattle.std.specs.List.Sorted.{IsPermutation}
 use Rattle.codeword.specs.declared.words.TheConstants.{IDLE}
+use Rattle.codeword.specs.declared.batches.TheConstants.{SLOTS}
+use Rattle.codeword.specs.Batches.{frame_at}
 use Rattle.codeword.specs.Capcodes.{frame_of}
 use Rattle.codeword.specs.Words.{address_of, message_of}
 use Rattle.page_text.specs.Groups.{groups}
@@ -12,12 +14,9 @@ use Rattle.page_text.specs.Page.{Page}
 unfoldable pub run : Page → List ℕ
 run page = address_of page.capcode page.function ∷ map message_of (groups page.function page.text)
 
--- the frame of a page, and the frame of a place: a batch has 16 slots in 8 frames
+-- the frame of a page
 abbrev pub frame : Page → ℕ
 frame page = frame_of page.capcode
-
-abbrev pub frame_at : ℕ → ℕ
-frame_at place = place % 16 / 2
 
 abbrev pub in_frame : ℕ → Page → Bool
 in_frame f page = frame page == f
@@ -57,9 +56,9 @@ pub record IsLayout (accepted : List Page) (pieces : List Piece) : Type 0 where
       → filter (in_frame (frame_at (place before))) (pages after) ≡ []
   -- End: there are whole batches, the last place is idle, and no smaller number of batches has all runs and is idle at its last
   -- place.
-  pub batches : (b : ℕ) × (place pieces ≡ 16 * b)
+  pub batches : (b : ℕ) × (place pieces ≡ SLOTS * b)
   pub idle_last : (before : List Piece) × (pieces ≡ before ++ Idle ∷ [])
-  pub no_sooner : (before after : List Piece) (b : ℕ) → pieces ≡ before ++ Idle ∷ after → place before + 1 ≡ 16 * b
+  pub no_sooner : (before after : List Piece) (b : ℕ) → pieces ≡ before ++ Idle ∷ after → place before + 1 ≡ SLOTS * b
       → pages after ≡ [] → after ≡ []
 
 -- these are the slots of a transmission of the accepted pages
