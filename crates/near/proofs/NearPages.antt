@@ -30,7 +30,8 @@ use Rattle.page_text.proofs.Groups.{number-take-lt}
 use Rattle.scheduler.specs.Slots.{Piece, Idle, Run, run, words, pages, place, frame, in_frame, IsSchedule}
 use Rattle.scheduler.proofs.Pieces.{place-append}
 use Rattle.scheduler.proofs.Unique.{shift}
-use Rattle.receiver.specs.Heard.{HeardPage, with_text, frame_at, capcode_at, groups_with, groups_to_address, page_if, page_with, pages_from}
+use Rattle.codeword.specs.Batches.{capcode_at, frame_at}
+use Rattle.receiver.specs.Heard.{HeardPage, with_text, groups_with, groups_to_address, page_if, page_with, pages_from}
 use Rattle.near.specs.NearAir.{AreUsable}
 use Rattle.near.proofs.NearWords.{AreNear}
 
