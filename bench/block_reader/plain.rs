@@ -54,6 +54,8 @@ fn median(mut times: Vec<f64>) -> f64 {
 }
 
 fn main() {
+    println!("| blocks | proved | plain Rust | ratio |");
+    println!("|---|---|---|---|");
     let longest = [b"5551234\r".as_slice(), &[b'A'; 241], b"\r"].concat();
     for (name, body) in [("250 characters", longest.as_slice()), ("14 characters", b"5551234\rHELLO\r")] {
         let bytes = blocks(body);
@@ -61,6 +63,6 @@ fn main() {
         let (of_proved, of_plain): (Vec<_>, Vec<_>) =
             (0..ROUNDS).map(|_| (time(proved, &bytes), time(plain, &bytes))).unzip();
         let (proved, plain) = (median(of_proved), median(of_plain));
-        println!("bodies of {name}: proved {proved:.2} ns a byte, plain {plain:.2} ns a byte, ratio {:.2}", proved / plain);
+        println!("| bodies of {name} | {proved:.2} ns a byte | {plain:.2} ns a byte | {:.2} |", proved / plain);
     }
 }

@@ -11,7 +11,11 @@ import time
 
 import model
 
-ADDRESS = ("127.0.0.1", 2473)
+
+def free_address():
+    """An address of this machine whose port nobody has."""
+    with socket.create_server(("127.0.0.1", 0)) as free:
+        return free.getsockname()
 
 
 class Maker:
@@ -155,19 +159,19 @@ def compare_trial(maker, program):
         same("near", [page for page in heard if page[0] == capcode], of_it)
 
 
-def connect():
+def connect(address):
     for _ in range(200):
         try:
-            return socket.create_connection(ADDRESS)
+            return socket.create_connection(address)
         except ConnectionRefusedError:
             time.sleep(0.01)
     raise SystemExit("the station doesn't listen")
 
 
-def speak(maker, said):
+def speak(maker, said, address):
     """Says this in random pieces, and gives what is replied."""
     replied = b""
-    with connect() as line:
+    with connect(address) as line:
         at = 0
         while at < len(said):
             size = maker.random.choice([1, 7, 100, 4096, len(said)])
@@ -184,12 +188,13 @@ def compare_station(maker, program):
     settings, password, subscribers, cells = maker.settings()
     count = maker.random.randint(1, 4)
     air = program.path("air")
-    station = program.start("station", "%s:%d" % ADDRESS, program.write("settings", settings.encode()), air, count)
+    address = free_address()
+    station = program.start("station", "%s:%d" % address, program.write("settings", settings.encode()), air, count)
     lines, lists = "", []
     for number in range(1, count + 1):
         said = maker.session(password, subscribers)
         answers, pages, counts = model.session(said, password, subscribers, cells)
-        same("replies", speak(maker, said), model.replies(answers))
+        same("replies", speak(maker, said, address), model.replies(answers))
         lines += model.report_line(number, answers, counts)
         lists.append(pages)
     same("lines", station.communicate()[0].decode(), lines)
@@ -222,10 +227,10 @@ def compare_send(maker, program):
             while piece := line.recv(4096):
                 said.extend(piece)
 
-    with socket.create_server(ADDRESS) as listener:
+    with socket.create_server(("127.0.0.1", 0)) as listener:
         terminal = threading.Thread(target=answer, args=[listener])
         terminal.start()
-        code, printed = program.run("send", "%s:%d" % ADDRESS, program.write("pages", content))
+        code, printed = program.run("send", "%s:%d" % listener.getsockname(), program.write("pages", content))
         terminal.join()
     is_on, outcomes, wanted = model.client(hears, password, pages)
     same("said", bytes(said), wanted)

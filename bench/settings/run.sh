@@ -53,4 +53,16 @@ fn main(rt: HostRuntime) -> anyhow::Result<()> {
 }
 RT
 cd "$work/crates/measure"
-rt run 2>"$work/log" || { cat "$work/log" >&2; exit 1; }
+rt run >"$work/times" 2>"$work/log" || { cat "$work/log" >&2; exit 1; }
+# The lines of a file stand together: N entries, N bytes: read N us; N finds N us.
+awk '
+    function commas(n) { return n < 1000 ? n "" : commas(int(n / 1000)) "," sprintf("%03d", n % 1000) }
+    function row() { if (entries) printf "| %s | %s | %.3g ms | %.3f ms |\n", commas(entries), commas(bytes), read / 1000, looked / 1000 }
+    BEGIN {
+        print "| subscribers | bytes of the file | read | 1,000 look-ups |"
+        print "|---|---|---|---|"
+    }
+    $1 != entries { row(); entries = $1; bytes = $3; read = $6; looked = $10 }
+    { if ($6 < read) read = $6; if ($10 < looked) looked = $10 }
+    END { row() }
+' "$work/times"

@@ -8,7 +8,6 @@ import threading
 import time
 
 PROGRAM, FOLDER = sys.argv[1], pathlib.Path(sys.argv[2])
-ADDRESS = ("127.0.0.1", 24517)
 TIMES = 5
 LOGON = b"\r\x1bPG1\r"
 GO = b"ID=\x06\r\x1b[p\r"
@@ -25,19 +24,25 @@ def block(text):
     return front + bytes(0x30 + (total >> at & 15) for at in (8, 4, 0)) + b"\r"
 
 
+def free_address():
+    """An address of this machine whose port nobody has. Each station gets one of its own: a port may stay taken after a run."""
+    with socket.create_server(("127.0.0.1", 0)) as free:
+        return free.getsockname()
+
+
 class Station:
     """A station that serves so many connections. At its end it was waited for."""
 
     def __init__(self, connections):
-        address = f"{ADDRESS[0]}:{ADDRESS[1]}"
-        words = [PROGRAM, "station", address, FOLDER / "settings.toml", FOLDER / "air.bin", str(connections)]
+        self.address = free_address()
+        words = [PROGRAM, "station", "%s:%d" % self.address, FOLDER / "settings.toml", FOLDER / "air.bin", str(connections)]
         with (FOLDER / "report").open("w") as report:
             self.process = subprocess.Popen(words, stdout=report)
 
     def dial(self):
         for _ in range(1000):
             try:
-                line = socket.create_connection(ADDRESS, 60)
+                line = socket.create_connection(self.address, 60)
                 line.setsockopt(socket.IPPROTO_TCP, socket.TCP_NODELAY, 1)
                 return line
             except ConnectionRefusedError:
@@ -116,11 +121,14 @@ def sessions(count):
 
 
 (FOLDER / "settings.toml").write_text(SETTINGS)
+print("| what | time | |")
+print("|---|---|---|")
 for text in (b"HELLO", b"x" * 241):
     replied, ended, size, count = min(whole(text) for _ in range(TIMES))
-    print(f"{size} characters, {count} blocks, said at once: {replied:.3f} s to the End, {ended:.3f} s to the end of the program")
+    what = f"a session of {size:,} characters, {count:,} blocks of {len(block(text))}, said at once"
+    print(f"| {what} | {replied:.3f} s to the End, {ended:.3f} s to the end of the program | |")
 for count in (1000, 10000):
     best = min(in_turn(count) for _ in range(TIMES))
-    print(f"{count} blocks in one session, each after the reply to the one before: {best:.3f} s, {count / best:.0f} pages a second")
+    print(f"| {count:,} blocks in one session, each said when the reply to the one before was heard | {best:.3f} s | {count / best:,.0f} pages a second |")
 best = min(sessions(1000) for _ in range(TIMES))
-print(f"1000 sessions of one page: {best:.3f} s, {1000 / best:.0f} sessions a second")
+print(f"| 1,000 sessions of one page, each reply heard before more is said | {best:.3f} s | {1000 / best:,.0f} sessions a second |")

@@ -81,6 +81,16 @@ for turn in 1 2 3; do
     rt run 2>"$work/log"
 done >"$work/times.txt"
 awk '
-    { key = $2; ns = $5 * 1000 / $3; if (!($1 key in least) || ns < least[$1 key]) least[$1 key] = ns; acks[key] = acks[key] " " $4; seen[key] = 1 }
-    END { for (key in seen) printf "texts of %s characters: proved %.2f ns a byte, plain %.2f ns a byte, ratio %.2f\n", key, least["proved" key], least["plain" key], least["proved" key] / least["plain" key] }
+    { ns = $5 * 1000 / $3; if (!($1 $2 in least) || ns < least[$1 $2]) least[$1 $2] = ns }
+    END {
+        print "| texts | proved | plain Rust | ratio |"
+        print "|---|---|---|---|"
+        count = split("5 241", keys, " ")
+        for (k = 1; k <= count; k++) {
+            key = keys[k]
+            proved = least["proved" key]
+            plain = least["plain" key]
+            printf "| %d characters, in blocks of %d | %.2f ns a byte | %.2f ns a byte | %.2f |\n", key, key + 15, proved, plain, proved / plain
+        }
+    }
 ' "$work/times.txt"

@@ -72,7 +72,13 @@ for turn in 1 2 3 4 5 6 7 8 9; do
 done
 size=$(wc -c <"$work/air")
 awk -v words=$((size / 4)) '
+    function row(name, ns) { printf "| `%s` | %.1f million |\n", name, words * 1000 / ns }
     $1 == "cat" { if (!cat || $2 < cat) cat = $2 }
     $1 == 10000 { if (!sent || $3 < sent) sent = $3 }
-    END { printf "%d words: transmit %.2f million words a second, cat %.2f million words a second\n", words, words * 1000 / sent, words * 1000 / cat }
+    END {
+        print "| | words a second |"
+        print "|---|---|"
+        row("transmit", sent)
+        row("cat", cat)
+    }
 ' "$work/times"

@@ -1,14 +1,11 @@
 -- The words and the bits of a transmission.
+use Rattle.codeword.specs.Words.{filler}
 use Rattle.std.specs.Prelude.{◌≡◌, ℕ, zero, suc, ◌/◌, Bool, List, [], ◌∷◌, ◌++◌, length, take, drop, replicate}
 use Rattle.bits.specs.Bits.{words_bits}
 use Rattle.codeword.specs.declared.batches.TheConstants.{SLOTS}
 use Rattle.codeword.specs.declared.words.TheConstants.{SYNC}
 use Rattle.page_text.specs.Page.{Page}
 use Rattle.scheduler.specs.Slots.{IsSchedule}
-
--- 32 bits 1010..10 of the preamble
-abbrev pub filler : ℕ
-filler = 0xAAAAAAAA
 
 -- the preamble: 576 bits, which are 18 words
 unfoldable pub preamble : List ℕ

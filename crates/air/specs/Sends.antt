@@ -7,17 +7,17 @@ use Rattle.codeword.specs.declared.words.TheConstants.{SYNC}
 use Rattle.page_text.specs.Page.{Page}
 use Rattle.scheduler.specs.Slots.{run, IsSchedule}
 use Rattle.scheduler.specs.Said.{word_in, AreSlots}
-use Rattle.scheduler.specs.Sendings.{Held}
+use Rattle.scheduler.specs.Sendings.{HeldPages}
 use Rattle.scheduler.specs.declared.slots.Slot.{Slot}
 use Rattle.wires.specs.Written.{Written, Puts, AppendsFront}
 use Rattle.air.specs.Air.{preamble, batches, IsAir}
 
 -- the words of slots
-abbrev pub words_of : List Slot → List ℕ
-words_of slots = map word_in slots
+abbrev pub words_of_slots : List Slot → List ℕ
+words_of_slots slots = map word_in slots
 
 -- The transmission of the accepted pages was written, or after Failed a front of it. It fails in no steady sink with room for it.
-pub record Sends {T E : Type 0} (accepted : List Page) (old new : Written Bool) (result : Result T E) : Type 0 where
+pub record SendsTransmission {T E : Type 0} (accepted : List Page) (old new : Written Bool) (result : Result T E) : Type 0 where
   pub bits : List Bool
   pub air : IsAir accepted bits
   pub puts : Puts old new bits result
@@ -44,11 +44,11 @@ pieces_before (suc n) slots = preamble ++ batches n slots
 -- The sink refused a piece: the preamble, or the last of so many batches. The pieces before it were written whole, and of this one a
 -- front. These pages are held: the accepted ones, in order, without those whose runs are whole in the slots that were handed over,
 -- those of the refused batch among them.
-pub record Stops (accepted : List Page) (old new : Written Bool) (held : List Page) : Type 0 where
+pub record SendingStops (accepted : List Page) (old new : Written Bool) (held : List Page) : Type 0 where
   pub slots : List Slot
   pub are : AreSlots accepted slots
   pub handed : ℕ
   pub within : SLOTS * handed ≤ length slots
   pub written : IsTrue old.tells
-      → AppendsFront (old.held ++ words_bits (pieces_before handed (words_of slots))) new.held (words_bits (last_piece handed (words_of slots)))
-  pub held_are : Held accepted (take (SLOTS * handed) slots) held
+      → AppendsFront (old.held ++ words_bits (pieces_before handed (words_of_slots slots))) new.held (words_bits (last_piece handed (words_of_slots slots)))
+  pub held_are : HeldPages accepted (take (SLOTS * handed) slots) held

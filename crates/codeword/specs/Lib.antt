@@ -1,4 +1,3 @@
-pub mod Batches
 pub mod Capcodes
 pub mod Functions
 pub mod Kinds

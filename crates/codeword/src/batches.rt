@@ -1,7 +1,7 @@
 //! Batches: the slots between two sync words, and the frames that they make (M.584-2).
 
 ghost use Rattle.std.specs.Prelude.{◌≡◌, ◌<◌, ◌^◌};
-ghost use Rattle.codeword.specs.Batches.{capcode_at};
+ghost use Rattle.codeword.specs.Capcodes.{capcode_at};
 
 /// How many slots a batch has.
 pub const SLOTS: u32 = 16;

@@ -5,7 +5,7 @@ use Rattle.receiver.specs.Stretches.{after_sync}
 use Rattle.receiver.specs.Slots.{entries}
 use Rattle.receiver.specs.Heard.{heard}
 use Rattle.receiver.specs.Locks.{Hunts}
-use Rattle.receiver.specs.Fronts.{FrontEnd, front_of, FrontStandsFor, HasUnderWay, page_under_way}
+use Rattle.receiver.specs.Fronts.{FrontEnd, front_end_of, FrontStandsFor, HasUnderWay, page_under_way}
 use Rattle.receiver.specs.Last.{IsShorterFront}
 use Rattle.receiver.specs.Listeners.{Listener, StandsFor, is_one_of}
 use Rattle.receiver.specs.Steps.{HuntsOn, Finds, HuntsThrough}
@@ -31,7 +31,7 @@ last_32-twice bits =
     let z : length (last_32 bits) - 32 ≡ 0 = omega arith in
     ap last_32 (append-nil (last_32 bits)) ∙ ap (λ (n : ℕ). drop n (last_32 bits)) z ∙ sym (ap last_32 (append-nil bits))
 
--- the last bits of longer bits
+-- the last bits of with_group bits
 last_32-append : (more bits : List Bool) → last_32 (last_32 bits ++ more) ≡ last_32 (bits ++ more)
 last_32-append [] bits = last_32-twice bits
 last_32-append (b ∷ more) bits =
@@ -49,7 +49,7 @@ some_ends : (xs : List Bool) (b : Bool) (ys : List Bool) → xs ++ b ∷ ys ≡ 
 some_ends [] b ys e = let f : b ∷ ys ≡ [] = e in cc
 some_ends (x ∷ xs) b ys e = let f : x ∷ (xs ++ b ∷ ys) ≡ [] = e in cc
 
--- where nothing stands behind a sync word in longer bits, none is found in these
+-- where nothing stands behind a sync word in with_group bits, none is found in these
 none_before : (bits more taken : List Bool) → IsShorterFront more taken → ((rest : List Bool) → after_sync (bits ++ taken) ≡ Some rest → rest ≡ []) → after_sync (bits ++ more) ≡ None
 none_before bits more taken s ends =
     none_of (after_sync (bits ++ more)) (λ rest h.
@@ -57,9 +57,9 @@ none_before bits more taken s ends =
     (ap (λ (xs : List Bool). after_sync (bits ++ xs)) s.is ∙ ap after_sync (sym (append_assoc bits more (s.next ∷ s.rest))) ∙ after_sync-append (bits ++ more) (s.next ∷ s.rest) rest h)))
 
 hunt_waits : (place : ℕ) (kept taken : List Bool) → ((bits : List Bool) → Hunts kept bits → (rest : List Bool) → after_sync (bits ++ taken) ≡ Some rest → rest ≡ [])
-    → Waits (front_of false place kept) taken
+    → Waits (front_end_of false place kept) taken
 hunt_waits place kept taken ends more s = (
-  front_of false place (last_32 (kept ++ more)),
+  front_end_of false place (last_32 (kept ++ more)),
   still_hunting false place kept (last_32 (kept ++ more)) more refl
       (λ (bits : List Bool) (h : Hunts kept bits). record {
         last = ap (λ (xs : List Bool). last_32 (xs ++ more)) h.last ∙ last_32-append more bits;
@@ -68,7 +68,7 @@ hunt_waits place kept taken ends more s = (
 )
 
 pub hunting_waits : (locked : Bool) (place : ℕ) (kept next piece left : List Bool) (is_found : Bool) → locked ≡ false → HuntsThrough kept next piece left is_found
-    → Waits (front_of locked place kept) (taken_of piece left)
+    → Waits (front_end_of locked place kept) (taken_of piece left)
 hunting_waits true place kept next piece left is_found is h = cc
 hunting_waits false place kept next piece left true is h =
     hunt_waits place kept (taken_of piece left) (λ (bits : List Bool) (hunts : Hunts kept bits) (rest : List Bool) e.
@@ -79,13 +79,13 @@ hunting_waits false place kept next piece left false is h =
 
 -- ---- a lock
 
-pub locked_waits : (locked : Bool) (place : ℕ) (kept next taken : List Bool) → locked ≡ true → Joined kept next taken → Waits (front_of locked place kept) taken
+pub locked_waits : (locked : Bool) (place : ℕ) (kept next taken : List Bool) → locked ≡ true → Joined kept next taken → Waits (front_end_of locked place kept) taken
 locked_waits locked place kept next taken is j more s =
     let a = length-append more (s.next ∷ s.rest) in
     let e = ap length s.is in
     let f = j.fits in
     let l = length-append kept more in
-    (front_of locked place (kept ++ more), still_locked locked place kept (kept ++ more) more is record { fits = omega arith; next-is = refl } (omega arith))
+    (front_end_of locked place (kept ++ more), still_locked locked place kept (kept ++ more) more is record { fits = omega arith; next-is = refl } (omega arith))
 
 -- ---- what a front end is fed
 

@@ -1,6 +1,6 @@
 -- What a listener does with what its front end met.
 use Rattle.std.proofs.Common.{◌≡◌, ℕ, ◌+◌, Bool, List, ◌++◌, Option, arith, sym, ◌∙◌, ap, subst}
-use Rattle.receiver.specs.FrontSteps.{Hears, page_after, completed_by, slots_by}
+use Rattle.receiver.specs.FrontSteps.{HearsPage, page_after, completed_by, slots_by}
 use Rattle.receiver.specs.Fronts.{HasUnderWay}
 use Rattle.receiver.specs.Heard.{HeardPage, heard}
 use Rattle.receiver.specs.Listeners.{Listener, StandsFor, is_one_of, ready_pages}
@@ -13,7 +13,7 @@ use Rattle.receiver.proofs.Pieces.{Fed}
 pub record Met (before after : Listener) (event : FrontEvent) (more : List Bool) : Type 0 where
   pub capcodes : after.capcodes ≡ before.capcodes
   pub hears : (listens : ℕ → Bool) (page : Option HeardPage) (bits : List Bool) → HasUnderWay listens before.front page bits
-      → Hears listens page after.front event bits (bits ++ more)
+      → HearsPage listens page after.front event bits (bits ++ more)
   pub page : after.under_way ≡ page_after (is_one_of before.capcodes) before.under_way event
   pub ready : completed_by before.under_way event ≡ ready_pages after.ready
 

@@ -3,7 +3,7 @@ use Rattle.std.proofs.Common.{◌≡◌, ℕ, ◌+◌, ◌<◌, inl, inr, Bool, 
 use Rattle.std.proofs.lemmas.Bool.{cases_lt}
 use Rattle.receiver.specs.Heard.{HeardPage, heard}
 use Rattle.receiver.specs.Slots.{slots_in}
-use Rattle.receiver.specs.Listeners.{Listener, StandsFor, is_one_of, ready_pages, answer_of}
+use Rattle.receiver.specs.Listeners.{Listener, StandsFor, is_one_of, ready_pages, ready_answer}
 use Rattle.receiver.specs.declared.ready.Ready.{Ready}
 use Rattle.wires.specs.Pieces.{taken_of}
 use Rattle.wires.proofs.Pieces.{taken_is, taken_twice}
@@ -73,7 +73,7 @@ counts_then a b piece left rest n m k f e p q bits h =
     omega arith
 
 -- where no page is answered, none is complete
-pub none_ready : (answer : Option Ready) (ready : Option HeardPage) → answer ≡ None → answer ≡ answer_of ready → ready_pages ready ≡ []
+pub none_ready : (answer : Option Ready) (ready : Option HeardPage) → answer ≡ None → answer ≡ ready_answer ready → ready_pages ready ≡ []
 none_ready answer None e f = refl
 none_ready answer (Some page) e f = cc
 

@@ -5,8 +5,8 @@ use Rattle.receiver.specs.Listeners.{is_one_of}
 use Rattle.receiver.specs.Heard.{HeardPage}
 
 -- the page that begins with an address word of a capcode that is listened to
-abbrev pub begun : Function → Option ℕ → Option HeardPage
-begun function ours = option_map (λ c. record { capcode = c; function = function; groups = [] }) ours
+abbrev pub page_begun : Function → Option ℕ → Option HeardPage
+page_begun function ours = option_map (λ c. record { capcode = c; function = function; groups = [] }) ours
 
 -- the capcode of this number, where it is one of these
 abbrev pub IsFound : List ℕ → ℕ → Option ℕ → Type 0

@@ -19,7 +19,7 @@ pub record Hunts (kept bits : List Bool) : Type 0 where
   pub none : after_sync bits ≡ None
 
 -- a lock over these bits wasn't lost
-pub record Holds (lock : Lock) (bits : List Bool) : Type 0 where
+pub record LockHolds (lock : Lock) (bits : List Bool) : Type 0 where
   pub place : lock.place ≡ length bits / 32 % BATCH_WORDS
   pub partial : lock.partial ≡ drop (32 * (length bits / 32)) bits
   pub held : after_loss bits ≡ None

@@ -99,7 +99,7 @@ impl Hunting {
 
 impl Locked {
     ghost use Rattle.receiver.specs.Steps.{LockGoesOn, HasSlotPlace};
-    ghost use Rattle.receiver.specs.Locks.{Holds, lock_of};
+    ghost use Rattle.receiver.specs.Locks.{LockHolds, lock_of};
 
     /// A lock whose next word stands in the first slot.
     #[inline(always)]
@@ -115,7 +115,7 @@ impl Locked {
     /// Takes the next bit.
     #[inline(always)]
     pub fn feed(self, bit: bool) -> LockStep
-        ensures step { (bits : List Bool) → Holds self bits → LockGoesOn result bits (bits ++ bit ∷ []) }
+        ensures step { (bits : List Bool) → LockHolds self bits → LockGoesOn result bits (bits ++ bit ∷ []) }
         ensures place { HasSlotPlace result }
     {
         let mut register = self.register;
@@ -157,11 +157,11 @@ pub struct Front {
 impl Model for Front {
     ghost use Rattle.std.specs.Prelude.{◌≡◌, ◌≤◌, ◌<◌, length, true};
     ghost use Rattle.codeword.specs.declared.batches.TheConstants.{SLOTS};
-    ghost use Rattle.receiver.specs.Fronts.{FrontEnd, front_of};
+    ghost use Rattle.receiver.specs.Fronts.{FrontEnd, front_end_of};
 
     ghost Value = { FrontEnd };
 
-    ghost view = { λ f. front_of f.is_locked f.place f.register };
+    ghost view = { λ f. front_end_of f.is_locked f.place f.register };
 
     ghost invariant = { λ f. (f.place ≤ SLOTS) × (f.is_locked ≡ true → length f.register < 32) };
 }
@@ -181,7 +181,7 @@ pub enum FrontEvent {
 
 impl Front {
     ghost use Rattle.receiver.specs.Fronts.{FrontStandsFor, HasUnderWay};
-    ghost use Rattle.receiver.specs.FrontSteps.{Shows, Hears, HasFrontPlace};
+    ghost use Rattle.receiver.specs.FrontSteps.{Shows, HearsPage, HasFrontPlace};
     ghost use Rattle.receiver.specs.Heard.{HeardPage, heard};
     ghost use Rattle.receiver.specs.Last.{IsShorterFront};
     ghost use Rattle.receiver.specs.Slots.{entries};
@@ -207,7 +207,7 @@ impl Front {
     pub fn feed_piece(&mut self, piece: &mut Piece) -> FrontEvent
         ensures shows { (bits : List Bool) → FrontStandsFor self.old bits → Shows self.new result bits (bits ++ taken_of piece.old piece.new) }
         ensures hears { (listens : ℕ → Bool) (page : Option HeardPage) (bits : List Bool) → HasUnderWay listens self.old page bits
-            → Hears listens page self.new result bits (bits ++ taken_of piece.old piece.new) }
+            → HearsPage listens page self.new result bits (bits ++ taken_of piece.old piece.new) }
         ensures place { HasFrontPlace result }
         ensures whole { piece.old ≡ taken_of piece.old piece.new ++ piece.new }
         ensures all { result ≡ Still → piece.new ≡ [] }
@@ -250,7 +250,7 @@ impl Front {
     pub fn feed(&mut self, bit: bool) -> FrontEvent
         ensures shows { (bits : List Bool) → FrontStandsFor self.old bits → Shows self.new result bits (bits ++ bit ∷ []) }
         ensures hears { (listens : ℕ → Bool) (page : Option HeardPage) (bits : List Bool) → HasUnderWay listens self.old page bits
-            → Hears listens page self.new result bits (bits ++ bit ∷ []) }
+            → HearsPage listens page self.new result bits (bits ++ bit ∷ []) }
         ensures place { HasFrontPlace result }
     {
         self.register.push(bit);

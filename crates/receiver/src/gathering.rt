@@ -5,8 +5,8 @@ ghost use Rattle.codeword.specs.Kinds.{kind_of};
 ghost use Rattle.page_text.specs.Texts.{text_of};
 ghost use Rattle.receiver.specs.FrontSteps.{HasFrontPlace, completed_by, page_after, slots_by};
 ghost use Rattle.receiver.specs.UnderWay.{open_after, completed};
-ghost use Rattle.receiver.specs.Listeners.{answer_of, is_one_of, ready_pages};
-ghost use Rattle.receiver.specs.Gathering.{IsFound, begun};
+ghost use Rattle.receiver.specs.Listeners.{ready_answer, is_one_of, ready_pages};
+ghost use Rattle.receiver.specs.Gathering.{IsFound, page_begun};
 
 use crate::front::FrontEvent;
 use crate::ready::Ready;
@@ -67,7 +67,7 @@ impl Gathering {
         requires place { HasFrontPlace event }
         ensures page { self.new.under_way ≡ page_after (is_one_of (C.capcodes capcodes.now)) self.old.under_way event }
         ensures ready { completed_by self.old.under_way event ≡ ready_pages self.new.ready }
-        ensures answer { result ≡ answer_of self.new.ready }
+        ensures answer { result ≡ ready_answer self.new.ready }
         ensures steps { steps.new ≡ steps.old + slots_by event }
     {
         self.forget();
@@ -112,7 +112,7 @@ impl Gathering {
         requires place { place < SLOTS }
         ensures page { self.new.under_way ≡ open_after (is_one_of (C.capcodes capcodes.now)) place self.old.under_way (kind_of word) }
         ensures ready { completed self.old.under_way (kind_of word) ≡ ready_pages self.new.ready }
-        ensures answer { result ≡ answer_of self.new.ready }
+        ensures answer { result ≡ ready_answer self.new.ready }
     {
         let Some(said) = kind(word) else {
             self.close();
@@ -134,7 +134,7 @@ impl Gathering {
     /// Begins a page, where the capcode is listened to. The page under way until now is complete.
     fn begin(&mut self, function: Function, ours: Option<Capcode>)
         requires none_ready { self.old.ready ≡ None }
-        ensures page { self.new.under_way ≡ begun function ours }
+        ensures page { self.new.under_way ≡ page_begun function ours }
         ensures ready { self.new.ready ≡ self.old.under_way }
     {
         self.ready = self.page;

@@ -92,7 +92,7 @@ impl Model for Group {
 }
 
 impl Group {
-    ghost use Rattle.receiver.specs.Listeners.{StandsFor, answer_of, ready_pages};
+    ghost use Rattle.receiver.specs.Listeners.{StandsFor, ready_answer, ready_pages};
     ghost use Rattle.receiver.specs.Heard.{heard};
     ghost use Rattle.receiver.specs.Slots.{slots_in};
 
@@ -134,7 +134,7 @@ impl Group {
         ensures stands { (bits : List Bool) → StandsFor self.old bits → StandsFor self.new (bits ++ bit ∷ []) }
         ensures page { (bits : List Bool) → StandsFor self.old bits
             → heard (is_one_of self.old.capcodes) (bits ++ bit ∷ []) ≡ heard (is_one_of self.old.capcodes) bits ++ ready_pages self.new.ready }
-        ensures answer { result ≡ answer_of self.new.ready }
+        ensures answer { result ≡ ready_answer self.new.ready }
         ensures steps { (bits : List Bool) → StandsFor self.old bits → steps.new + slots_in bits ≡ steps.old + slots_in (bits ++ bit ∷ []) }
     {
         let event = self.front.feed(bit);
@@ -153,7 +153,7 @@ impl Group {
         ensures stands { (bits : List Bool) → StandsFor self.old bits → StandsFor self.new (bits ++ taken_of piece.old piece.new) }
         ensures page { (bits : List Bool) → StandsFor self.old bits
             → heard (is_one_of self.old.capcodes) (bits ++ taken_of piece.old piece.new) ≡ heard (is_one_of self.old.capcodes) bits ++ ready_pages self.new.ready }
-        ensures answer { result ≡ answer_of self.new.ready }
+        ensures answer { result ≡ ready_answer self.new.ready }
         ensures whole { piece.old ≡ taken_of piece.old piece.new ++ piece.new }
         ensures all { result ≡ None → piece.new ≡ [] }
         ensures some { 0 < length piece.old → length piece.new < length piece.old }

@@ -81,7 +81,7 @@ impl Model for Receiver {
 }
 
 impl Receiver {
-    ghost use Rattle.receiver.specs.Listeners.{StandsFor, answer_of, ready_pages};
+    ghost use Rattle.receiver.specs.Listeners.{StandsFor, ready_answer, ready_pages};
     ghost use Rattle.receiver.specs.Heard.{heard};
 
     /// A receiver of these one to four capcodes that was fed no bit.
@@ -106,7 +106,7 @@ impl Receiver {
         ensures stands { (bits : List Bool) → StandsFor self.old bits → StandsFor self.new (bits ++ bit ∷ []) }
         ensures page { (bits : List Bool) → StandsFor self.old bits
             → heard (is_one_of self.old.capcodes) (bits ++ bit ∷ []) ≡ heard (is_one_of self.old.capcodes) bits ++ ready_pages self.new.ready }
-        ensures answer { result ≡ answer_of self.new.ready }
+        ensures answer { result ≡ ready_answer self.new.ready }
     {
         let event = self.front.feed(bit);
         self.gathering
@@ -121,7 +121,7 @@ impl Receiver {
         ensures stands { (bits : List Bool) → StandsFor self.old bits → StandsFor self.new (bits ++ taken_of piece.old piece.new) }
         ensures page { (bits : List Bool) → StandsFor self.old bits
             → heard (is_one_of self.old.capcodes) (bits ++ taken_of piece.old piece.new) ≡ heard (is_one_of self.old.capcodes) bits ++ ready_pages self.new.ready }
-        ensures answer { result ≡ answer_of self.new.ready }
+        ensures answer { result ≡ ready_answer self.new.ready }
         ensures whole { piece.old ≡ taken_of piece.old piece.new ++ piece.new }
         ensures all { result ≡ None → piece.new ≡ [] }
         ensures some { 0 < length piece.old → length piece.new < length piece.old }

@@ -11,10 +11,11 @@ returns-in_default c =
     ∙ none_found (keys c.self.inside.sets) c.args.number c.self.invariant c.in_default.ensures
 
 pub returns-then-contains_key : goal.returns-then-contains_key
-returns-then-contains_key c =
-    (c.in-Some.ensures.1,
-    ap (λ (es : List (ℕ × ℕ)). is_one_of (keys_of es) c.args.number) (sym c.self.view_is)
-    ∙ sym (has_key-is_one_of c.self.inside.sets.entries c.args.number) ∙ sym c.contains_key.ensures ∙ c.if-contains_key.true)
+returns-then-contains_key c = (
+  c.in-Some.ensures.1,
+  ap (λ (es : List (ℕ × ℕ)). is_one_of (keys_of es) c.args.number) (sym c.self.view_is)
+      ∙ sym (has_key-is_one_of c.self.inside.sets.entries c.args.number) ∙ sym c.contains_key.ensures ∙ c.if-contains_key.true,
+)
 
 pub returns-else-contains_key : goal.returns-else-contains_key
 returns-else-contains_key c =
