@@ -1,5 +1,6 @@
 -- The words of a transmission that are still to come.
 use Rattle.std.specs.Prelude.{◌≡◌, ℕ, zero, suc, ◌+◌, ◌*◌, ◌≤◌, Bool, true, false, List, [], ◌∷◌, ◌++◌, length, replicate, Option, Some, None, MatchOption}
+use Rattle.codeword.specs.declared.batches.TheConstants.{BATCH_WORDS, SLOTS}
 use Rattle.codeword.specs.declared.words.TheConstants.{SYNC}
 use Rattle.page_text.specs.Page.{Page}
 use Rattle.page_pool.specs.Pool.{Pool, cells, pages}
@@ -21,11 +22,11 @@ abbrev pub AreWords : List Page → List ℕ → Type 0
 AreWords [] words = words ≡ []
 AreWords (page ∷ accepted) words = (slots : List ℕ) × IsSchedule (page ∷ accepted) slots × (words ≡ transmission slots)
 
--- the words are 18 and 17 for each 16 slots, of which there are so many at most
+-- the words are 18 and those of the batches, whose slots are so many at most
 pub record AreFew (accepted : List Page) (words : List ℕ) : Type 0 where
   pub batches : ℕ
-  pub words_are : length words ≡ 18 + 17 * batches
-  pub few : 16 * batches ≤ most_slots accepted
+  pub words_are : length words ≡ 18 + BATCH_WORDS * batches
+  pub few : SLOTS * batches ≤ most_slots accepted
 
 -- the words of slots with the sync words between them: so many slots come before the next sync word
 abbrev pub with_sync : ℕ → List ℕ → List ℕ

@@ -4,8 +4,8 @@ ghost use Rattle.std.specs.Prelude.{◌≡◌, ◌≢◌, ◌≤◌, ◌+◌, []
 ghost use Rattle.page_pool.specs.Pool.{pages};
 
 use crate::codewords::word;
-use crate::sender::{FILLER, PREAMBLE, SLOTS};
-use codeword::SYNC;
+use crate::sender::{FILLER, PREAMBLE};
+use codeword::{SLOTS, SYNC};
 use page_pool::Pool;
 use scheduler::sendings::Sending;
 use std::sync::ledger::Ledger;
@@ -60,7 +60,7 @@ impl Order {
             return None;
         }
         if self.room == 0 {
-            self.room = SLOTS as u32;
+            self.room = SLOTS;
             return Some(SYNC);
         }
         self.room -= 1;

@@ -8,7 +8,7 @@ use Rattle.codeword.specs.Functions.{letter_of}
 use Rattle.page_text.specs.Line.{decimal_digits}
 use Rattle.wires.specs.Written.{Written, Puts}
 use Rattle.wires.proofs.Written.{Puts-nothing}
-use Rattle.receiver.specs.Heard.{capcode_at}
+use Rattle.codeword.specs.Capcodes.{capcode_at}
 use Rattle.receiver.specs.Stretches.{first_stretches, stretches}
 use Rattle.receiver.specs.Slots.{Batch, TableEntry, Slot, entries}
 use Rattle.receiver.specs.Fronts.{FrontEnd, FrontStandsFor}

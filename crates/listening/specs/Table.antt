@@ -8,7 +8,7 @@ use Rattle.codeword.specs.Functions.{letter_of}
 use Rattle.codeword.specs.Kinds.{kind_of}
 use Rattle.page_text.specs.Line.{decimal_digits, hex_digit}
 use Rattle.receiver.specs.Fronts.{FrontEnd, FrontStandsFor}
-use Rattle.receiver.specs.Heard.{capcode_at}
+use Rattle.codeword.specs.Capcodes.{capcode_at}
 use Rattle.receiver.specs.Slots.{Batch, TableEntry, Slot, entries}
 
 -- the k lowest hexadecimal digits of a number, the highest first, in capitals

@@ -16,7 +16,7 @@ use Rattle.codeword.specs.declared.functions.Function.TheVariants.{Numeric, Tone
 use Rattle.codeword.specs.declared.kinds.WordKind.{WordKind}
 use Rattle.codeword.specs.declared.kinds.WordKind.TheVariants.{Address, Message}
 use Rattle.codeword.specs.declared.words.TheConstants.{IDLE}
-use Rattle.codeword.specs.Capcodes.{high_of, idle_high, frame_at}
+use Rattle.codeword.specs.Capcodes.{capcode_at, high_of, idle_high, frame_at}
 use Rattle.codeword.specs.Kinds.{kind_from, kind_of}
 use Rattle.codeword.specs.Words.{address_of, message_of}
 use Rattle.codeword.proofs.Carried.{address_of-codeword, address_of-lt, message_of-codeword, message_of-lt}
@@ -30,7 +30,7 @@ use Rattle.page_text.proofs.Groups.{number-take-lt}
 use Rattle.scheduler.specs.Slots.{PlanPiece, Idle, Run, run, words, pages_in_order, place, frame, in_frame, IsSchedule}
 use Rattle.scheduler.proofs.Pieces.{place-append}
 use Rattle.scheduler.proofs.Unique.{shift}
-use Rattle.receiver.specs.Heard.{HeardPage, with_text, capcode_at, groups_with, groups_to_address, page_if, page_with, pages_from}
+use Rattle.receiver.specs.Heard.{HeardPage, with_text, groups_with, groups_to_address, page_if, page_with, pages_from}
 use Rattle.near.specs.NearAir.{AreUsable}
 use Rattle.near.proofs.NearWords.{AreNear}
 

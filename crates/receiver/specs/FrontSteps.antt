@@ -1,6 +1,7 @@
 -- What further bits do to a front end, and to what is heard.
 use Rattle.std.specs.Prelude.{◌≡◌, ℕ, ◌+◌, ◌<◌, Bool, List, [], ◌∷◌, ◌++◌, Option, None}
 use Rattle.codeword.specs.Kinds.{kind_of}
+use Rattle.codeword.specs.declared.batches.TheConstants.{SLOTS}
 use Rattle.receiver.specs.Slots.{TableEntry, Batch as BatchEntry, Slot as SlotEntry, entries, slots_in}
 use Rattle.receiver.specs.Heard.{HeardPage, heard}
 use Rattle.receiver.specs.UnderWay.{open_after, completed}
@@ -51,5 +52,5 @@ pub record HearsPage (listens : ℕ → Bool) (page : Option HeardPage) (front :
 abbrev pub HasFrontPlace : FrontEvent → Type 0
 HasFrontPlace Still = Unit {0}
 HasFrontPlace Batch = Unit {0}
-HasFrontPlace (Slot place word) = place < 16
+HasFrontPlace (Slot place word) = place < SLOTS
 HasFrontPlace Lost = Unit {0}

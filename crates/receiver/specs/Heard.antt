@@ -1,6 +1,6 @@
 -- The pages that are heard in a list of bits. docs/profile.md, "page heard".
-use Rattle.codeword.specs.Capcodes.{frame_at}
-use Rattle.std.specs.Prelude.{ℕ, suc, ◌+◌, ◌*◌, ◌/◌, ◌%◌, Bool, true, false, ◌&&◌, nat_le, List, [], ◌∷◌, ◌++◌, length, Option, Some, None, option_map, flat_map}
+use Rattle.codeword.specs.Capcodes.{capcode_at}
+use Rattle.std.specs.Prelude.{ℕ, suc, Bool, true, false, ◌&&◌, nat_le, List, [], ◌∷◌, ◌++◌, length, Option, Some, None, option_map, flat_map}
 use Rattle.codeword.specs.declared.functions.Function.{Function}
 use Rattle.codeword.specs.declared.kinds.WordKind.{WordKind}
 use Rattle.codeword.specs.declared.kinds.WordKind.TheVariants.{Address, Message}
@@ -19,10 +19,6 @@ pub record HeardPage : Type 0 where
 -- the page with its text
 abbrev pub with_text : HeardPage → Page
 with_text page = record { capcode = page.capcode; function = page.function; text = text_of page.function page.groups }
-
--- the capcode whose high bits stand in a slot
-abbrev pub capcode_at : ℕ → ℕ → ℕ
-capcode_at place high = 8 * high + frame_at place
 
 -- what the first word says, and the groups before an address word that the words behind it give
 abbrev pub groups_with : Option WordKind → Option (List ℕ) → Option (List ℕ)

@@ -1,5 +1,6 @@
 -- The slots of a stretch of lock, and the table of what was heard.
 use Rattle.std.specs.Prelude.{ℕ, suc, ◌%◌, Bool, true, false, List, [], ◌∷◌, length, flat_map}
+use Rattle.codeword.specs.declared.batches.TheConstants.{BATCH_WORDS}
 use Rattle.receiver.specs.Stretches.{is_sync_place, stretches}
 
 -- a word at a sync place or not, and the slots behind it
@@ -33,7 +34,7 @@ entry_with true place word = Batch
 -- the entries of the words of a stretch, from the number k on
 unfoldable pub entries_from : ℕ → List ℕ → List TableEntry
 entries_from k [] = []
-entries_from k (word ∷ words) = entry_with (is_sync_place k) (k % 17) word ∷ entries_from (suc k) words
+entries_from k (word ∷ words) = entry_with (is_sync_place k) (k % BATCH_WORDS) word ∷ entries_from (suc k) words
 
 -- the entries of a stretch: the sync word that was found, and its words
 abbrev pub stretch_entries : List ℕ → List TableEntry

@@ -1,5 +1,6 @@
 -- What one more bit does to a hunt and to a lock.
 use Rattle.std.specs.Prelude.{◌≡◌, ℕ, ◌<◌, ◌^◌, ◌%◌, Bool, true, false, List, [], ◌∷◌, ◌++◌, length, Some}
+use Rattle.codeword.specs.declared.batches.TheConstants.{BATCH_WORDS, SLOTS}
 use Rattle.receiver.specs.Stretches.{after_sync, after_loss, held_words, words_of_bits}
 use Rattle.receiver.specs.Locks.{Hunts, LockHolds}
 use Rattle.wires.specs.Pieces.{taken_of}
@@ -35,13 +36,13 @@ HasOneMore word old bits = words_of_bits bits ≡ words_of_bits old ++ word ∷ 
 -- is near the sync word, or one that isn't, with which the lock is lost.
 abbrev pub LockGoesOn : LockStep → List Bool → List Bool → Type 0
 LockGoesOn (Still locked) old bits = LockHolds locked bits × (words_of_bits bits ≡ words_of_bits old)
-LockGoesOn (Slot locked place word) old bits = LockHolds locked bits × HasOneMore word old bits × (length (words_of_bits old) % 17 ≡ place) × (place < 16) × (word < 2 ^ 32)
-LockGoesOn (Batch locked) old bits = LockHolds locked bits × (word : ℕ) × HasOneMore word old bits × (length (words_of_bits old) % 17 ≡ 16)
+LockGoesOn (Slot locked place word) old bits = LockHolds locked bits × HasOneMore word old bits × (length (words_of_bits old) % BATCH_WORDS ≡ place) × (place < SLOTS) × (word < 2 ^ 32)
+LockGoesOn (Batch locked) old bits = LockHolds locked bits × (word : ℕ) × HasOneMore word old bits × (length (words_of_bits old) % BATCH_WORDS ≡ SLOTS)
 LockGoesOn (Lost hunting) old bits = Hunts hunting [] × (after_loss bits ≡ Some []) × (held_words bits ≡ words_of_bits old)
 
 -- a slot has a place from 0 to 15
 abbrev pub HasSlotPlace : LockStep → Type 0
 HasSlotPlace (Still locked) = Unit {0}
-HasSlotPlace (Slot locked place word) = place < 16
+HasSlotPlace (Slot locked place word) = place < SLOTS
 HasSlotPlace (Batch locked) = Unit {0}
 HasSlotPlace (Lost hunting) = Unit {0}

@@ -1,6 +1,7 @@
 -- What is heard in a list of bits: stretches of lock, and their words. docs/profile.md, "lock".
 use Rattle.std.specs.Prelude.{ℕ, zero, suc, ◌*◌, ◌/◌, ◌%◌, ◌==◌, Bool, true, false, ◌&&◌, nat_le, List, [], ◌∷◌, length, take, drop, Option, Some, None, option_map}
 use Rattle.bits.specs.Bits.{word_bits, number, dist}
+use Rattle.codeword.specs.declared.batches.TheConstants.{BATCH_WORDS, SLOTS}
 use Rattle.codeword.specs.declared.words.TheConstants.{SYNC}
 
 -- the bits differ from those of the sync word in at most two places
@@ -32,7 +33,7 @@ words_of_bits bits = first_words (length bits / 32) bits
 
 -- of the words of a lock, counted from 0, each 17th is at a sync place
 abbrev pub is_sync_place : ℕ → Bool
-is_sync_place k = k % 17 == 16
+is_sync_place k = k % BATCH_WORDS == SLOTS
 
 -- the word is near the sync word
 abbrev pub is_sync : ℕ → Bool

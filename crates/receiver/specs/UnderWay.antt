@@ -4,7 +4,8 @@ use Rattle.codeword.specs.declared.functions.Function.{Function}
 use Rattle.codeword.specs.declared.kinds.WordKind.{WordKind}
 use Rattle.codeword.specs.declared.kinds.WordKind.TheVariants.{Address, Message}
 use Rattle.codeword.specs.Kinds.{kind_of}
-use Rattle.receiver.specs.Heard.{HeardPage, capcode_at}
+use Rattle.codeword.specs.Capcodes.{capcode_at}
+use Rattle.receiver.specs.Heard.{HeardPage}
 
 -- ---- the page under way at the end of some slots
 

@@ -2,6 +2,7 @@
 use Rattle.std.specs.Prelude.{◌≡◌, ◌≢◌, ◌⊎◌, ◌+◌, ◌<◌, ℕ, true, false, List, [], ◌∷◌, ◌++◌, length, drop, take, Some}
 use Rattle.std.specs.List.{filter, find}
 use Rattle.std.specs.Option.{option_map}
+use Rattle.codeword.specs.declared.batches.TheConstants.{SLOTS}
 use Rattle.codeword.specs.declared.functions.Function.TheVariants.{Numeric}
 use Rattle.page_text.specs.Page.{Page}
 use Rattle.page_pool.specs.Pool.{Live, Pool, cells}
@@ -74,7 +75,7 @@ HasRun w last text = (f k : ℕ) → last ≡ InRun f k → IsInRun w f k text
 
 -- what holds between a transmission and its pool
 pub record IsSendingOf (s : Sending) (w : Pool) : Type 0 where
-  pub in_batch : s.place < 16
+  pub in_batch : s.place < SLOTS
   pub in_run : HasRun w s.before s.text.items
 
 -- What was given of a transmission of the accepted pages, and which of them are held: whole pieces came before the run under way, and

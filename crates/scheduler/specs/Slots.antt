@@ -3,6 +3,7 @@ use Rattle.std.specs.Prelude.{◌≡◌, ℕ, ◌+◌, ◌*◌, ◌/◌, ◌%◌
 use Rattle.std.specs.List.{filter}
 use Rattle.std.specs.List.Sorted.{IsPermutation}
 use Rattle.codeword.specs.declared.words.TheConstants.{IDLE}
+use Rattle.codeword.specs.declared.batches.TheConstants.{SLOTS}
 use Rattle.codeword.specs.Capcodes.{frame_of, frame_at}
 use Rattle.codeword.specs.Words.{address_of, message_of}
 use Rattle.page_text.specs.Groups.{groups}
@@ -54,9 +55,9 @@ pub record IsLayout (accepted : List Page) (pieces : List PlanPiece) : Type 0 wh
       → filter (in_frame (frame_at (place before))) (pages_in_order after) ≡ []
   -- End: there are whole batches, the last place is idle, and no smaller number of batches has all runs and is idle at its last
   -- place.
-  pub batches : (b : ℕ) × (place pieces ≡ 16 * b)
+  pub batches : (b : ℕ) × (place pieces ≡ SLOTS * b)
   pub idle_last : (before : List PlanPiece) × (pieces ≡ before ++ Idle ∷ [])
-  pub no_sooner : (before after : List PlanPiece) (b : ℕ) → pieces ≡ before ++ Idle ∷ after → place before + 1 ≡ 16 * b
+  pub no_sooner : (before after : List PlanPiece) (b : ℕ) → pieces ≡ before ++ Idle ∷ after → place before + 1 ≡ SLOTS * b
       → pages_in_order after ≡ [] → after ≡ []
 
 -- these are the slots of a transmission of the accepted pages

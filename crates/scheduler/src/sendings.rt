@@ -11,16 +11,11 @@ ghost use Rattle.scheduler.specs.declared.slots.Slot.{Slot as Said};
 
 use crate::slots::Slot;
 use arrayvec::ArrayVec;
+use codeword::{FRAME_SLOTS, SLOTS};
 use page_pool::{Pool, Ticket};
 use page_text::{group, word_count};
 use std::sync::ledger::Ledger;
 use wires::steps::Steps;
-
-/// A batch has so many slots (M.584-2).
-const BATCH: u32 = 16;
-
-/// A frame has so many slots (M.584-2).
-const FRAME: u32 = 2;
 
 /// The most characters of a text.
 const LONGEST_TEXT: usize = 400;
@@ -125,7 +120,7 @@ impl Sending {
         ensures gives { GivesOneSlot result self.old pool.old self.new pool.new }
         ensures heads { steps.new ≡ steps.old + heads_in result }
     {
-        let frame = self.place / FRAME;
+        let frame = self.place / FRAME_SLOTS;
         let Some(t) = pool.first(frame) else {
             self.pass(Before::Idle);
             return Slot::Idle;
@@ -138,7 +133,7 @@ impl Sending {
     fn address(&mut self, pool: &mut Pool, frame: u32, t: Ticket) -> Slot
         requires follows { IsSendingOf self.old pool.old }
         requires between { IsBetween self.old.before }
-        requires frame { frame ≡ self.old.place / FRAME }
+        requires frame { frame ≡ self.old.place / FRAME_SLOTS }
         requires sound { Sound pool.old }
         requires first { IsFirst pool.old frame t }
         ensures gives { GivesOneSlot result self.old pool.old self.new pool.new }
@@ -157,10 +152,10 @@ impl Sending {
 
     /// Passes to the next slot behind the last one of a run, whose page leaves the pool.
     fn end(&mut self, pool: &mut Pool, t: Ticket)
-        requires in_batch { self.old.place < BATCH }
+        requires in_batch { self.old.place < SLOTS }
         requires live { IsLive pool.old t }
         ensures takes { TakesPage pool.old pool.new t }
-        ensures place { self.new.place ≡ (self.old.place + 1) % BATCH }
+        ensures place { self.new.place ≡ (self.old.place + 1) % SLOTS }
         ensures before { self.new.before ≡ RunEnd }
     {
         pool.take(t);
@@ -169,12 +164,12 @@ impl Sending {
 
     /// Passes to the next slot, behind this one.
     fn pass(&mut self, before: Before)
-        requires { self.old.place < BATCH }
-        ensures place { self.new.place ≡ (self.old.place + 1) % BATCH }
+        requires { self.old.place < SLOTS }
+        ensures place { self.new.place ≡ (self.old.place + 1) % SLOTS }
         ensures before { self.new.before ≡ before }
         ensures text { self.new.text ≡ self.old.text }
     {
-        self.place = (self.place + 1) % BATCH;
+        self.place = (self.place + 1) % SLOTS;
         self.before = before;
     }
 }
