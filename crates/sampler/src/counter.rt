@@ -100,12 +100,12 @@ impl Counter {
         bits.piece()
     }
 
-    /// Whether a sample is ready.
+    /// Whether no sample is ready.
     #[inline(always)]
-    pub(crate) fn is_ready(&self) -> bool
-        ensures { IsTrue result ↔ (self.now.ready ≢ []) }
+    pub(crate) fn is_empty(&self) -> bool
+        ensures { IsTrue result ↔ (self.now.ready ≡ []) }
     {
-        !self.ready.is_empty()
+        self.ready.is_empty()
     }
 
     /// These samples come next, where none is ready.

@@ -47,7 +47,7 @@ impl Gathered {
         ensures { self.new ≡ self.old ++ replicate n value }
     {
         let run = if value { (1u64 << n) - 1 } else { 0 };
-        self.bits = ((u64::from(self.bits) << n) + run) as u32;
+        self.bits = (((u64::from(self.bits) << n) + run) % (1u64 << u32::BITS)) as u32;
         self.count += n;
     }
 

@@ -68,7 +68,7 @@ impl<B: BitSource> Sampled<B> {
             ≡ follows (sampled_over self.old.counter self.old.limit self.old.further (B.state self.old.samples)).lent) }
         ensures fewer { OnOk result (self.new.limit + length self.new.counter.ready ≤ self.old.limit + length self.old.counter.ready) }
     {
-        if self.counter.is_ready() {
+        if !self.counter.is_empty() {
             return Ok(true);
         }
         if self.limit == 0 {
@@ -94,7 +94,7 @@ impl<B: BitSource> Sampled<B> {
         let samples = self.samples.piece(most)?;
         self.limit -= u64::from(samples.len());
         self.counter.reads(samples);
-        Ok(self.counter.is_ready())
+        Ok(!self.counter.is_empty())
     }
 
     /// Asks once whether there is a further sample after the limit.
