@@ -73,9 +73,10 @@ run_of_zeros n w some few small =
     let l = run_length n w some few small in
     let r : n + count_leading_zeros 64 w - 64 ≡ n - l.0 = omega (arith, l.1, l.2) in
     let e : n - l.0 + l.0 ≡ n = omega (arith, l.2) in
-    let d : w / 2 ^ l.0 ≡ 0 = div-eq_of_lt l.3 in
-    (omega (arith, r, l.2),
-    rw r (subst (λ (k : ℕ). bits_of k w ≡ replicate (n - l.0) false ++ drop (n - l.0) (bits_of k w)) e (front (n - l.0) l.0 w false (ap (bits_of (n - l.0)) d ∙ zeros (n - l.0)))))
+    let d : w / 2 ^ l.0 ≡ 0 = div-eq_of_lt l.3 in (
+      omega (arith, r, l.2),
+      rw r (subst (λ (k : ℕ). bits_of k w ≡ replicate (n - l.0) false ++ drop (n - l.0) (bits_of k w)) e (front (n - l.0) l.0 w false (ap (bits_of (n - l.0)) d ∙ zeros (n - l.0)))),
+    )
 
 -- and of one whose highest is set, by its complement
 pub run_of_ones : (n w o : ℕ) → 0 < n → n ≤ 32 → o < 2 ^ (n - 1) → w + o + 1 ≡ 2 ^ n → (0 < n + count_leading_zeros 64 o - 64) × (bits_of n w ≡ replicate (n + count_leading_zeros 64 o - 64) true ++ drop (n + count_leading_zeros 64 o - 64) (bits_of n w))
@@ -87,9 +88,10 @@ run_of_ones n w o some few small is =
     let q = pow_pos (n - l.0) in
     let whole : 2 ^ n ≡ 2 ^ (n - l.0) * 2 ^ l.0 = ap (λ (k : ℕ). 2 ^ k) (sym e) ∙ pow-add 2 (n - l.0) l.0 in
     let s : w ≡ (2 ^ (n - l.0) - 1) * 2 ^ l.0 + (2 ^ l.0 - 1 - o) = complement w o (2 ^ (n - l.0)) (2 ^ l.0) q l.3 (is ∙ whole) in
-    let d : w / 2 ^ l.0 ≡ 2 ^ (n - l.0) - 1 = ap (λ (k : ℕ). k / 2 ^ l.0) s ∙ (mul-add-div_right p (2 ^ (n - l.0) - 1) (2 ^ l.0 - 1 - o) ∙ (ap (λ (k : ℕ). 2 ^ (n - l.0) - 1 + k) (div-eq_of_lt (omega (arith, p))) ∙ omega arith)) in
-    (omega (arith, r, l.2),
-    rw r (subst (λ (k : ℕ). bits_of k w ≡ replicate (n - l.0) true ++ drop (n - l.0) (bits_of k w)) e (front (n - l.0) l.0 w true (all_set (n - l.0) (w / 2 ^ l.0) (omega (arith, d, q))))))
+    let d : w / 2 ^ l.0 ≡ 2 ^ (n - l.0) - 1 = ap (λ (k : ℕ). k / 2 ^ l.0) s ∙ (mul-add-div_right p (2 ^ (n - l.0) - 1) (2 ^ l.0 - 1 - o) ∙ (ap (λ (k : ℕ). 2 ^ (n - l.0) - 1 + k) (div-eq_of_lt (omega (arith, p))) ∙ omega arith)) in (
+      omega (arith, r, l.2),
+      rw r (subst (λ (k : ℕ). bits_of k w ≡ replicate (n - l.0) true ++ drop (n - l.0) (bits_of k w)) e (front (n - l.0) l.0 w true (all_set (n - l.0) (w / 2 ^ l.0) (omega (arith, d, q))))),
+    )
   where
     complement : (w o a b : ℕ) → 0 < a → o < b → w + o + 1 ≡ a * b → w ≡ (a - 1) * b + (b - 1 - o)
     complement w o zero b h k e = absurd (omega arith)
