@@ -1,12 +1,12 @@
 -- Samples that are read ahead of their bits.
-use Rattle.std.proofs.Common.{◌≡◌, ◌≢◌, ℕ, suc, ◌+◌, ◌-◌, ◌<◌, ◌≤◌, ◌||◌, Bool, true, false, List, [], ◌∷◌, ◌++◌, length, length-append, take, Option, Result, Some, None, Ok, Err, IsErr, IsTrue, refl, sym, ◌∙◌, ap, ap₂, subst, arith, rules, append_assoc}
+use Rattle.std.proofs.Common.{◌≡◌, ◌≢◌, ℕ, suc, ◌+◌, ◌-◌, ◌<◌, ◌≤◌, ◌||◌, Bool, true, false, List, [], ◌∷◌, ◌++◌, length, length-append, take, Option, Result, Some, None, Ok, Err, IsErr, IsTrue, refl, sym, ◌∙◌, ap, ap₂, subst, arith, rules}
 use Rattle.std.proofs.Math.Seq.{take-append-add}
 use Rattle.std.proofs.lemmas.Grind.{common_steps}
 use Rattle.std.proofs.lemmas.Bool.Decides.{nat_tests}
-use Rattle.std.specs.Prelude.{IfOk, IsOk, IsSome, MatchOption, is_some, nat_lt, OnOk, unwrap_or}
+use Rattle.std.specs.Prelude.{IsSome, MatchOption, is_some, nat_lt, OnOk}
 use Rattle.wires.specs.Ahead.{Fills}
 use Rattle.wires.specs.Causes.{HasCause}
-use Rattle.wires.specs.Held.{Held, Follows}
+use Rattle.wires.specs.Held.{Follows}
 use Rattle.wires.specs.Left.{Left, Pops, PopsSome, TakesOne, TakesPiece, Took}
 use Rattle.wires.specs.Stacked.{some_or}
 use Rattle.wires.proofs.Causes.{cause_ok, cause_err, cause_none}

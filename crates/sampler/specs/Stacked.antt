@@ -1,5 +1,5 @@
 -- What types tell that work on samples.
-use Rattle.std.specs.Prelude.{◌≡◌, ℕ, IfOk, IsOk, IsTrue, OnOk, Result, Ok, Err, ◌+◌, ◌/◌, ◌%◌, ◌||◌, nat_lt, Bool, true, false, List, [], ◌∷◌, ◌++◌, drop, is_some, length, replicate, take, Option, Some, None, if◌then◌else◌}
+use Rattle.std.specs.Prelude.{◌≡◌, ℕ, IfOk, IsOk, IsTrue, OnOk, Result, ◌+◌, ◌/◌, ◌%◌, ◌||◌, nat_lt, Bool, true, false, List, [], ◌∷◌, ◌++◌, drop, is_some, length, replicate, take, Option, Some, None, if◌then◌else◌}
 use Rattle.std.specs.Bool.{beq}
 use Rattle.rand_pcg.specs.Lcg.{Lcg}
 use Rattle.rand_pcg.specs.Pcg.{pcg32}

@@ -1,4 +1,4 @@
-use Rattle.std.proofs.Common.{◌≡◌, ℕ, ap, sym, ◌∙◌, subst, List, Bool, arith, refl, replicate, drop, ◌++◌}
+use Rattle.std.proofs.Common.{ap, sym, ◌∙◌, arith}
 use Rattle.std.specs.Bool.{beq}
 use Rattle.sampler.specs.Stacked.{Counted}
 use Rattle.sampler.specs.declared.counter.Counter.TheInside.{Inside}

@@ -1,4 +1,4 @@
-use Rattle.std.proofs.Common.{◌≡◌, ◌≢◌, ℕ, ◌<◌, ◌+◌, ◌-◌, ◌*◌, ◌%◌, ◌^◌, ◌++◌, drop, replicate, length, [], ap, sym, ◌∙◌, subst, List, Bool, arith, refl}
+use Rattle.std.proofs.Common.{◌≡◌, ◌≢◌, ◌<◌, ◌+◌, ◌-◌, ◌*◌, ◌%◌, ◌^◌, ◌++◌, drop, replicate, length, [], ap, sym, ◌∙◌, subst, List, Bool, arith}
 use Rattle.std.proofs.lemmas.Bool.{le-leb, lt-leb}
 use Rattle.sampler.specs.Stacked.{Counted}
 use Rattle.sampler.proofs.Registers.{FirstRun, first_ones, first_zeros, number_fits, some_long}
