@@ -157,7 +157,7 @@ def talk(client, line):
     line.setblocking(False)
 
     def step(said):
-        """Says a piece or hears some replies, and gives how many bytes were said. A deaf client stops once the line takes no more."""
+        """Says a piece or hears some replies, and gives how many bytes were said. One that hears nothing stops at a full line."""
         nonlocal is_open
         ears, patience = ([], 0.3) if client.is_deaf else ([line], PATIENCE)
         readable, writable, _ = select.select(ears, [line] if said else [], [], patience)

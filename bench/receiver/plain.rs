@@ -35,7 +35,7 @@ impl Code {
         Code { low: table(10), middle: table(17), high: table(24), patterns }
     }
 
-    fn correct(&self, w: u32) -> Option<u32> {
+    pub fn correct(&self, w: u32) -> Option<u32> {
         let heard = w >> 1;
         let remainder = heard & 0x3FF
             ^ self.low[(heard >> 10 & 0x7F) as usize]
@@ -47,7 +47,7 @@ impl Code {
     }
 }
 
-fn is_sync(word: u32) -> bool {
+pub fn is_sync(word: u32) -> bool {
     (word ^ SYNC).count_ones() <= 2
 }
 

@@ -5,7 +5,7 @@ use Rattle.bits.specs.Bits.{bits_of, words_bits}
 use Rattle.page_text.specs.Page.{Page}
 use Rattle.page_pool.specs.Pool.{Pool, cells, pages}
 use Rattle.scheduler.specs.Said.{word_in}
-use Rattle.scheduler.specs.Sendings.{Follows, Keeps, slots_to_come}
+use Rattle.scheduler.specs.Sendings.{IsSendingOf, KeepsPool, slots_to_come}
 use Rattle.scheduler.specs.declared.slots.Slot.{Slot}
 use Rattle.scheduler.proofs.Ended.{ended}
 use Rattle.wires.specs.declared.Failed.{Failed}
@@ -14,7 +14,8 @@ use Rattle.wires.specs.Left.{TakesOne, TakesPiece}
 use Rattle.wires.proofs.Ahead.{cut_bits, goes_on, none_pending}
 use Rattle.wires.proofs.Pieces.{none_left}
 use Rattle.bits.proofs.Lengths.{length-bits_of}
-use Rattle.air.specs.Air.{IsAir, filler}
+use Rattle.codeword.specs.Words.{filler}
+use Rattle.air.specs.Air.{IsAir}
 use Rattle.air.specs.Left.{air_bits, bits_to_come, with_sync, words_to_come, AreWords}
 use Rattle.air.specs.declared.order.Order.{Order}
 
@@ -24,11 +25,11 @@ air_words [] words are = ap words_bits are
 air_words (page ∷ accepted) words are = (are.0, are.1, ap words_bits are.2)
 
 -- the pool is lent with its cells, and the counter
-lends : (w w' : Pool) (a b c d : GName) → c ≡ a → d ≡ b → Keeps w w' → Lent c ∷ Lent d ∷ replicate (cells w') (Lent c) ≡ Lent a ∷ Lent b ∷ replicate (cells w) (Lent a)
+lends : (w w' : Pool) (a b c d : GName) → c ≡ a → d ≡ b → KeepsPool w w' → Lent c ∷ Lent d ∷ replicate (cells w') (Lent c) ≡ Lent a ∷ Lent b ∷ replicate (cells w) (Lent a)
 lends w w' a b c d pool steps keeps =
     ap₂ (λ (x y : GName). Lent x ∷ Lent y ∷ replicate (cells w') (Lent x)) pool steps ∙ ap (λ (k : ℕ). Lent a ∷ Lent b ∷ replicate k (Lent a)) keeps.cells
 
-module _ (p n p' n' : ℕ) (s s' : Order) (w w' : Pool) (a b c d : GName) (pool : c ≡ a) (steps : d ≡ b) (keeps : Keeps w w') where
+module _ (p n p' n' : ℕ) (s s' : Order) (w w' : Pool) (a b c d : GName) (pool : c ≡ a) (steps : d ≡ b) (keeps : KeepsPool w w') where
   -- a bit came out
   pub takes_bit : (bit : Bool) → bits_to_come p n s w ≡ bit ∷ bits_to_come p' n' s' w'
       → TakesOne {E = Failed} (air_bits p n s w a b) (air_bits p' n' s' w' c d) (Ok (Some bit))
@@ -55,7 +56,7 @@ module _ (p n p' n' : ℕ) (s s' : Order) (w w' : Pool) (a b c d : GName) (pool 
     lent = lends w w' a b c d pool steps keeps;
   }
 
-module _ (p n p' n' : ℕ) (s s' : Order) (w w' : Pool) (a b c d : GName) (pool : c ≡ a) (steps : d ≡ b) (keeps : Keeps w w') where
+module _ (p n p' n' : ℕ) (s s' : Order) (w w' : Pool) (a b c d : GName) (pool : c ≡ a) (steps : d ≡ b) (keeps : KeepsPool w w') where
   -- a piece came out, which is empty only where no bit was left
   pub takes_piece : (most : ℕ) (piece : List Bool) → length piece ≤ most → bits_to_come p n s w ≡ piece ++ bits_to_come p' n' s' w' → (piece ≡ [] → bits_to_come p n s w ≡ [])
       → TakesPiece {E = Failed} most (air_bits p n s w a b) (air_bits p' n' s' w' c d) (Ok piece)
@@ -92,7 +93,7 @@ no_slots zero (slot ∷ slots) e = cc
 no_slots (suc k) (slot ∷ slots) e = cc
 
 -- where no bit is left, no page is held
-pub no_bit : (p n : ℕ) (s : Order) (w : Pool) → Follows s.sending w → bits_to_come p n s w ≡ [] → pages w ≡ []
+pub no_bit : (p n : ℕ) (s : Order) (w : Pool) → IsSendingOf s.sending w → bits_to_come p n s w ≡ [] → pages w ≡ []
 no_bit p n s w f e =
     let words : words_to_come s w ≡ [] = no_words (words_to_come s w) (no_rest (bits_of p n) (words_bits (words_to_come s w)) e) in
     let slots = no_slots s.room (slots_to_come w s.sending.place s.sending.before)

@@ -7,12 +7,12 @@ use Rattle.bits.proofs.Bytes.{words_bits-append}
 use Rattle.codeword.specs.declared.words.TheConstants.{SYNC}
 use Rattle.page_text.specs.Page.{Page}
 use Rattle.scheduler.specs.Said.{word_in, AreSlots}
-use Rattle.scheduler.specs.Sendings.{Held}
+use Rattle.scheduler.specs.Sendings.{HeldPages}
 use Rattle.scheduler.specs.declared.slots.Slot.{Slot}
 use Rattle.wires.specs.Written.{Puts, Written}
 use Rattle.wires.proofs.Written.{still, Puts-cut, Puts_words-fails, Puts_words-then}
 use Rattle.air.specs.Air.{batches, preamble, transmission}
-use Rattle.air.specs.Sends.{words_of, Stops}
+use Rattle.air.specs.Sends.{words_of_slots, SendingStops}
 use Rattle.air.proofs.Batches.{batches-at, batches-last}
 
 -- a call that succeeded, whatever it answered
@@ -32,8 +32,8 @@ on_err (Ok x) h p = cc
 on_err (Err e) h p = p
 
 -- a batch of the slots that are left
-pub batch_is : (items : List ℕ) (slots left : List Slot) (k : ℕ) → left ≡ drop (16 * k) slots → items ≡ SYNC ∷ words_of (take 16 left)
-    → items ≡ SYNC ∷ take 16 (drop (16 * k) (words_of slots))
+pub batch_is : (items : List ℕ) (slots left : List Slot) (k : ℕ) → left ≡ drop (16 * k) slots → items ≡ SYNC ∷ words_of_slots (take 16 left)
+    → items ≡ SYNC ∷ take 16 (drop (16 * k) (words_of_slots slots))
 batch_is items slots left k e is =
     is ∙ ap (λ l. SYNC ∷ map word_in (take 16 l)) e
     ∙ ap (λ l. SYNC ∷ l) (sym (take-map word_in 16 (drop (16 * k) slots)) ∙ ap (take 16) (sym (drop-map word_in (16 * k) slots)))
@@ -96,14 +96,14 @@ preamble_failed slots a b e r bad h =
 
 -- all of it was written
 pub all_sent : {T E : Type 0} (slots : List Slot) (a b : Written Bool) (k : ℕ) (x : T) → length slots ≡ 16 * k
-    → Puts {E = E} a b (words_bits (preamble ++ batches k (words_of slots))) (Ok x) → Puts {E = E} a b (words_bits (transmission (words_of slots))) (Ok k)
+    → Puts {E = E} a b (words_bits (preamble ++ batches k (words_of_slots slots))) (Ok x) → Puts {E = E} a b (words_bits (transmission (words_of_slots slots))) (Ok k)
 all_sent {E = E} slots a b k x l h =
-    let n : k ≡ length (words_of slots) / 16 = omega (arith, l, length-map slots word_in) in
-    Puts-ok a b _ x k (subst (λ (n : ℕ). Puts {E = E} a b (words_bits (preamble ++ batches n (words_of slots))) (Ok x)) n h)
+    let n : k ≡ length (words_of_slots slots) / 16 = omega (arith, l, length-map slots word_in) in
+    Puts-ok a b _ x k (subst (λ (n : ℕ). Puts {E = E} a b (words_bits (preamble ++ batches n (words_of_slots slots))) (Ok x)) n h)
 
 -- what is held where the preamble was refused
 pub stops_preamble : {T E : Type 0} (accepted : List Page) (slots : List Slot) (a b : Written Bool) (e : E) (held : List Page) → AreSlots accepted slots
-    → Puts {T = T} a b (words_bits preamble) (Err e) → Held accepted [] held → Stops accepted a b held
+    → Puts {T = T} a b (words_bits preamble) (Err e) → HeldPages accepted [] held → SendingStops accepted a b held
 stops_preamble accepted slots a b e held are h held_are = record {
   slots = slots;
   are = are;
@@ -115,9 +115,9 @@ stops_preamble accepted slots a b e held are h held_are = record {
 
 -- what is held where a batch was refused
 pub stops_batch : {T U E F : Type 0} (accepted : List Page) (slots : List Slot) (a b c : Written Bool) (k : ℕ) (items : List ℕ) (x : T) (e : F) (held : List Page)
-    → AreSlots accepted slots → 16 * suc k ≤ length slots → items ≡ SYNC ∷ take 16 (drop (16 * k) (words_of slots))
-    → Puts {E = E} a b (words_bits (preamble ++ batches k (words_of slots))) (Ok x) → Puts {T = U} b c (words_bits items) (Err e)
-    → Held accepted (take (16 * suc k) slots) held → Stops accepted a c held
+    → AreSlots accepted slots → 16 * suc k ≤ length slots → items ≡ SYNC ∷ take 16 (drop (16 * k) (words_of_slots slots))
+    → Puts {E = E} a b (words_bits (preamble ++ batches k (words_of_slots slots))) (Ok x) → Puts {T = U} b c (words_bits items) (Err e)
+    → HeldPages accepted (take (16 * suc k) slots) held → SendingStops accepted a c held
 stops_batch accepted slots a b c k items x e held are l is h p held_are = record {
   slots = slots;
   are = are;
@@ -128,7 +128,7 @@ stops_batch accepted slots a b c k items x e held are l is h p held_are = record
       let same = ap words_bits is in (
         q.0,
         subst (λ (l : List Bool). q.0 ≤ length l) same q.1,
-        q.2 ∙ ap (λ (l : List Bool). b.held ++ take q.0 l) same ∙ ap (λ (l : List Bool). l ++ take q.0 (words_bits (SYNC ∷ take 16 (drop (16 * k) (words_of slots))))) whole,
+        q.2 ∙ ap (λ (l : List Bool). b.held ++ take q.0 l) same ∙ ap (λ (l : List Bool). l ++ take q.0 (words_bits (SYNC ∷ take 16 (drop (16 * k) (words_of_slots slots))))) whole,
       ));
   held_are = held_are;
 }

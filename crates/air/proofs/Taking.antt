@@ -4,7 +4,7 @@ use Rattle.std.proofs.lemmas.List.{map-append}
 use Rattle.codeword.specs.declared.words.TheConstants.{SYNC}
 use Rattle.page_pool.specs.Pool.{Pool}
 use Rattle.scheduler.specs.Said.{word_in, heads_in}
-use Rattle.scheduler.specs.Sendings.{Keeps}
+use Rattle.scheduler.specs.Sendings.{KeepsPool}
 use Rattle.scheduler.specs.declared.slots.Slot.{Slot}
 use Rattle.scheduler.specs.declared.slots.Slot.TheVariants.{Idle, Address, Message}
 use Rattle.scheduler.proofs.Left.{keeps-same, keeps-then}
@@ -49,8 +49,8 @@ one_head (Address capcode function) = omega arith
 one_head (Message group) = omega arith
 
 -- what stays, stays
-pub Keeps-then : (a b c : Pool) → Keeps a b → Keeps b c → Keeps a c
+pub Keeps-then : (a b c : Pool) → KeepsPool a b → KeepsPool b c → KeepsPool a c
 Keeps-then a b c h k = keeps-then a b c h k
 
-pub Keeps-same : (a : Pool) → Keeps a a
+pub Keeps-same : (a : Pool) → KeepsPool a a
 Keeps-same a = keeps-same a

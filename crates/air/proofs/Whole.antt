@@ -12,7 +12,7 @@ use Rattle.scheduler.proofs.Standing.{few-slots, length-live, runs-live}
 use Rattle.wires.specs.Written.{Puts, Written}
 use Rattle.wires.proofs.Written.{Puts-cut}
 use Rattle.air.specs.Air.{transmission, IsAir}
-use Rattle.air.specs.Sends.{words_of, most_slots, HasBatches, Sends}
+use Rattle.air.specs.Sends.{words_of_slots, most_slots, HasBatches, SendsTransmission}
 
 -- a pool with live pages has pages to send
 pub some_pages : (w : Pool) (n : ℕ) → n ≡ length w.live → (n ≡ 0 → ⊥) → pages w ≢ []
@@ -27,19 +27,19 @@ none_live w e = none w.live e
     none (x ∷ es) e = cc
 
 -- the bits of a transmission
-air_some : (accepted : List Page) (slots : List Slot) → accepted ≢ [] → AreSlots accepted slots → IsAir accepted (words_bits (transmission (words_of slots)))
+air_some : (accepted : List Page) (slots : List Slot) → accepted ≢ [] → AreSlots accepted slots → IsAir accepted (words_bits (transmission (words_of_slots slots)))
 air_some [] slots some are = absurd (some refl)
-air_some (page ∷ accepted) slots some are = (words_of slots, slots_schedule (page ∷ accepted) slots are, refl)
+air_some (page ∷ accepted) slots some are = (words_of_slots slots, slots_schedule (page ∷ accepted) slots are, refl)
 
 -- how many batches it has
 pub has_batches : (accepted : List Page) (slots : List Slot) (n : ℕ) → accepted ≢ [] → AreSlots accepted slots → length slots ≡ 16 * n → HasBatches accepted n
 has_batches [] slots n some are e = absurd (some refl)
-has_batches (page ∷ accepted) slots n some are e = (words_of slots, slots_schedule (page ∷ accepted) slots are, length-map slots word_in ∙ e)
+has_batches (page ∷ accepted) slots n some are e = (words_of_slots slots, slots_schedule (page ∷ accepted) slots are, length-map slots word_in ∙ e)
 
 -- it was sent, or a front of it
 pub sends_some : {T E : Type 0} (accepted : List Page) (slots : List Slot) (a b : Written Bool) (r : Result T E) → accepted ≢ [] → AreSlots accepted slots
-    → Puts a b (words_bits (transmission (words_of slots))) r → Sends accepted a b r
-sends_some accepted slots a b r some are h = record { bits = words_bits (transmission (words_of slots)); air = air_some accepted slots some are; puts = h }
+    → Puts a b (words_bits (transmission (words_of_slots slots))) r → SendsTransmission accepted a b r
+sends_some accepted slots a b r some are h = record { bits = words_bits (transmission (words_of_slots slots)); air = air_some accepted slots some are; puts = h }
 
 -- a call that failed, whatever it would have answered
 pub Puts-err : {A T U E F : Type 0} (a b : Written A) (p : List A) (e : E) (r : Result U F) → IsErr r → Puts {T = T} a b p (Err e) → Puts a b p r

@@ -7,8 +7,9 @@ use Rattle.scheduler.specs.Said.{word_in, AreSlots}
 use Rattle.scheduler.specs.declared.slots.Slot.{Slot}
 use Rattle.scheduler.proofs.Said.{slots_schedule}
 use Rattle.scheduler.proofs.Standing.{few-slots, whole-slots}
-use Rattle.air.specs.Air.{batches, filler, preamble, transmission}
-use Rattle.air.specs.Sends.{words_of}
+use Rattle.codeword.specs.Words.{filler}
+use Rattle.air.specs.Air.{batches, preamble, transmission}
+use Rattle.air.specs.Sends.{words_of_slots}
 use Rattle.air.specs.Left.{with_sync, AreFew, AreWords}
 use Rattle.air.proofs.Batches.{length-batches}
 
@@ -39,20 +40,20 @@ with_sync-batches (suc n) slots l =
 
 -- the words from the start of a transmission on
 pub words-begin : (accepted : List Page) (slots : List Slot) (p : ℕ) → p ≡ 18 → accepted ≢ [] → AreSlots accepted slots
-    → replicate p filler ++ with_sync 0 (words_of slots) ≡ transmission (words_of slots)
+    → replicate p filler ++ with_sync 0 (words_of_slots slots) ≡ transmission (words_of_slots slots)
 unfolding preamble
 words-begin accepted slots p e some are =
     let w = whole-slots accepted slots are in
-    let l : length (words_of slots) ≡ 16 * w.0 = length-map slots word_in ∙ w.1 in
-    let n : w.0 ≡ length (words_of slots) / 16 = omega (arith, l) in
-    ap (λ n. replicate n filler ++ with_sync 0 (words_of slots)) e
-    ∙ ap (λ l. replicate 18 filler ++ l) (with_sync-batches w.0 (words_of slots) l ∙ ap (λ n. batches n (words_of slots)) n)
+    let l : length (words_of_slots slots) ≡ 16 * w.0 = length-map slots word_in ∙ w.1 in
+    let n : w.0 ≡ length (words_of_slots slots) / 16 = omega (arith, l) in
+    ap (λ n. replicate n filler ++ with_sync 0 (words_of_slots slots)) e
+    ∙ ap (λ l. replicate 18 filler ++ l) (with_sync-batches w.0 (words_of_slots slots) l ∙ ap (λ n. batches n (words_of_slots slots)) n)
 
 -- they are the words of the transmission
 pub are_words : (accepted : List Page) (slots : List Slot) (words : List ℕ) → accepted ≢ [] → AreSlots accepted slots
-    → words ≡ transmission (words_of slots) → AreWords accepted words
+    → words ≡ transmission (words_of_slots slots) → AreWords accepted words
 are_words [] slots words some are e = absurd (some refl)
-are_words (page ∷ accepted) slots words some are e = (words_of slots, slots_schedule (page ∷ accepted) slots are, e)
+are_words (page ∷ accepted) slots words some are e = (words_of_slots slots, slots_schedule (page ∷ accepted) slots are, e)
 
 -- no words
 pub no_words : (accepted : List Page) (words : List ℕ) → accepted ≡ [] → words ≡ [] → AreWords accepted words
@@ -61,17 +62,17 @@ no_words (page ∷ accepted) words e h = cc
 
 -- they are few
 pub are_few : (accepted : List Page) (slots : List Slot) (words : List ℕ) → accepted ≢ [] → AreSlots accepted slots
-    → words ≡ transmission (words_of slots) → AreFew accepted words
+    → words ≡ transmission (words_of_slots slots) → AreFew accepted words
 unfolding preamble
 are_few accepted slots words some are e =
     let w = whole-slots accepted slots are in
-    let l : length (words_of slots) ≡ 16 * w.0 = length-map slots word_in ∙ w.1 in
-    let n : length (words_of slots) / 16 ≡ w.0 = omega (arith, l) in
-    let b = length-batches w.0 (words_of slots) (omega (arith, l)) in
-    let all : length words ≡ length (replicate 18 filler ++ batches w.0 (words_of slots)) =
-    ap length (e ∙ ap (λ n. replicate 18 filler ++ batches n (words_of slots)) n) in
+    let l : length (words_of_slots slots) ≡ 16 * w.0 = length-map slots word_in ∙ w.1 in
+    let n : length (words_of_slots slots) / 16 ≡ w.0 = omega (arith, l) in
+    let b = length-batches w.0 (words_of_slots slots) (omega (arith, l)) in
+    let all : length words ≡ length (replicate 18 filler ++ batches w.0 (words_of_slots slots)) =
+    ap length (e ∙ ap (λ n. replicate 18 filler ++ batches n (words_of_slots slots)) n) in
     record {
       batches = w.0;
-      words_are = omega (arith, all, b, length-append (replicate 18 filler) (batches w.0 (words_of slots)), length-replicate 18 filler);
+      words_are = omega (arith, all, b, length-append (replicate 18 filler) (batches w.0 (words_of_slots slots)), length-replicate 18 filler);
       few = omega (arith, w.1, few-slots accepted slots some are);
     }

@@ -1,26 +1,24 @@
 -- The words and the bits of a transmission.
+use Rattle.codeword.specs.Words.{filler}
 use Rattle.std.specs.Prelude.{◌≡◌, ℕ, zero, suc, ◌/◌, Bool, List, [], ◌∷◌, ◌++◌, length, take, drop, replicate}
 use Rattle.bits.specs.Bits.{words_bits}
+use Rattle.codeword.specs.declared.batches.TheConstants.{SLOTS}
 use Rattle.codeword.specs.declared.words.TheConstants.{SYNC}
 use Rattle.page_text.specs.Page.{Page}
 use Rattle.scheduler.specs.Slots.{IsSchedule}
-
--- 32 bits 1010..10 of the preamble
-abbrev pub filler : ℕ
-filler = 0xAAAAAAAA
 
 -- the preamble: 576 bits, which are 18 words
 unfoldable pub preamble : List ℕ
 preamble = replicate 18 filler
 
--- n batches: each is the sync word and 16 slots
+-- n batches: each is the sync word and its slots
 unfoldable pub batches : ℕ → List ℕ → List ℕ
 batches zero slots = []
-batches (suc n) slots = SYNC ∷ (take 16 slots ++ batches n (drop 16 slots))
+batches (suc n) slots = SYNC ∷ (take SLOTS slots ++ batches n (drop SLOTS slots))
 
 -- the words of a transmission of these slots
 abbrev pub transmission : List ℕ → List ℕ
-transmission slots = preamble ++ batches (length slots / 16) slots
+transmission slots = preamble ++ batches (length slots / SLOTS) slots
 
 -- The bits of the transmission of accepted pages. No page gives no bits.
 abbrev pub IsAir : List Page → List Bool → Type 0

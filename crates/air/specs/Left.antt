@@ -1,18 +1,20 @@
 -- The words of a transmission that are still to come.
 use Rattle.std.specs.Prelude.{◌≡◌, ℕ, zero, suc, ◌+◌, ◌*◌, ◌≤◌, Bool, true, false, List, [], ◌∷◌, ◌++◌, length, replicate, Option, Some, None, MatchOption}
+use Rattle.codeword.specs.declared.batches.TheConstants.{BATCH_WORDS, SLOTS}
 use Rattle.codeword.specs.declared.words.TheConstants.{SYNC}
 use Rattle.page_text.specs.Page.{Page}
 use Rattle.page_pool.specs.Pool.{Pool, cells, pages}
 use Rattle.scheduler.specs.Slots.{IsSchedule}
 use Rattle.scheduler.specs.Said.{word_in}
-use Rattle.scheduler.specs.Sendings.{slots_to_come, Follows, Keeps, StandsAt}
+use Rattle.scheduler.specs.Sendings.{slots_to_come, IsSendingOf, KeepsPool, SendingStandsAt}
 use Rattle.scheduler.specs.declared.slots.Slot.{Slot}
 use Rattle.std.specs.Borrow.{GName}
 use Rattle.bits.specs.Bits.{bits_of, words_bits}
 use Rattle.wires.specs.Held.{Lent}
 use Rattle.wires.specs.Left.{Left}
-use Rattle.air.specs.Air.{filler, transmission}
-use Rattle.air.specs.Sends.{words_of, most_slots}
+use Rattle.codeword.specs.Words.{filler}
+use Rattle.air.specs.Air.{transmission}
+use Rattle.air.specs.Sends.{words_of_slots, most_slots}
 use Rattle.air.specs.declared.order.Order.{Order}
 
 -- the words of the transmission of accepted pages. No page gives no word.
@@ -20,11 +22,11 @@ abbrev pub AreWords : List Page → List ℕ → Type 0
 AreWords [] words = words ≡ []
 AreWords (page ∷ accepted) words = (slots : List ℕ) × IsSchedule (page ∷ accepted) slots × (words ≡ transmission slots)
 
--- the words are 18 and 17 for each 16 slots, of which there are so many at most
+-- the words are 18 and those of the batches, whose slots are so many at most
 pub record AreFew (accepted : List Page) (words : List ℕ) : Type 0 where
   pub batches : ℕ
-  pub words_are : length words ≡ 18 + 17 * batches
-  pub few : 16 * batches ≤ most_slots accepted
+  pub words_are : length words ≡ 18 + BATCH_WORDS * batches
+  pub few : SLOTS * batches ≤ most_slots accepted
 
 -- the words of slots with the sync words between them: so many slots come before the next sync word
 abbrev pub with_sync : ℕ → List ℕ → List ℕ
@@ -34,7 +36,7 @@ with_sync (suc k) (word ∷ slots) = word ∷ with_sync k slots
 
 -- the words that are still to come: of the preamble, and then of the slots
 abbrev pub words_to_come : Order → Pool → List ℕ
-words_to_come s w = replicate s.preamble filler ++ with_sync s.room (words_of (slots_to_come w s.sending.place s.sending.before))
+words_to_come s w = replicate s.preamble filler ++ with_sync s.room (words_of_slots (slots_to_come w s.sending.place s.sending.before))
 
 -- whether a slot comes next, by how many words of the preamble are still to come and how many slots before the next sync word
 abbrev pub comes : ℕ → ℕ → Bool
@@ -59,18 +61,18 @@ HasSlot false (Some word) slots = slots ≡ []
 
 -- the slots that were given grow by these, and the pool holds the pages whose runs aren't whole
 abbrev pub Stays : List Slot → Order → Pool → Order → Pool → Type 0
-Stays slots s w s' w' = (accepted : List Page) (given : List Slot) → StandsAt accepted given w s.sending.place s.sending.before
-    → StandsAt accepted (given ++ slots) w' s'.sending.place s'.sending.before
+Stays slots s w s' w' = (accepted : List Page) (given : List Slot) → SendingStandsAt accepted given w s.sending.place s.sending.before
+    → SendingStandsAt accepted (given ++ slots) w' s'.sending.place s'.sending.before
 
 -- a word was given, or none where all were
-pub record Gives (result : Option ℕ) (s : Order) (w : Pool) (s' : Order) (w' : Pool) : Type 0 where
-  pub follows : Follows s'.sending w'
+pub record GivesWord (result : Option ℕ) (s : Order) (w : Pool) (s' : Order) (w' : Pool) : Type 0 where
+  pub follows : IsSendingOf s'.sending w'
   pub next : MatchOption result (words_to_come s w ≡ []) (λ word. words_to_come s w ≡ word ∷ words_to_come s' w')
   pub ended : MatchOption result ((words_to_come s' w' ≡ []) × (pages w' ≡ [])) (λ word. Unit {0})
   pub slots : List Slot
   pub has_slot : HasSlot (slot_comes s) result slots
   pub stands : Stays slots s w s' w'
-  pub keeps : Keeps w w'
+  pub keeps : KeepsPool w w'
 
 -- the bits that are still to come: those of the word that was begun, and then those of the words
 abbrev pub bits_to_come : ℕ → ℕ → Order → Pool → List Bool

@@ -2,7 +2,7 @@
 use Rattle.std.specs.Prelude.{ℕ, Bool, List}
 use Rattle.page_text.specs.Page.{Page}
 use Rattle.page_pool.specs.Pool.{Pool}
-use Rattle.scheduler.specs.Sendings.{StandsAt}
+use Rattle.scheduler.specs.Sendings.{SendingStandsAt}
 use Rattle.scheduler.specs.declared.slots.Slot.{Slot}
 use Rattle.air.specs.Left.{words_to_come, slot_comes}
 use Rattle.air.specs.declared.reader.Words.{Words}
@@ -16,13 +16,13 @@ abbrev pub slot_next : Words → Bool
 slot_next s = slot_comes s.order
 
 -- the reference to the pool
-abbrev pub lender : Words → ℕ
-lender s = s.pool.ghost_name
+abbrev pub words_lender : Words → ℕ
+words_lender s = s.pool.ghost_name
 
 -- the pool
-abbrev pub pool_of : Words → Pool
-pool_of s = s.pool.now
+abbrev pub words_pool : Words → Pool
+words_pool s = s.pool.now
 
 -- these slots were given of a transmission of the accepted pages, and the pool holds those whose runs aren't whole
-abbrev pub Stands : List Page → List Slot → Words → Type 0
-Stands accepted given s = StandsAt accepted given s.pool.now s.order.sending.place s.order.sending.before
+abbrev pub WordsStand : List Page → List Slot → Words → Type 0
+WordsStand accepted given s = SendingStandsAt accepted given s.pool.now s.order.sending.place s.order.sending.before

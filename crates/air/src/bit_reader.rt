@@ -2,7 +2,7 @@
 
 ghost use Rattle.std.specs.Prelude.{◌≡◌, ◌≤◌, ◌<◌, ◌∷◌, [], IsTrue, IsFalse, MatchOption};
 ghost use Rattle.page_pool.specs.Pool.{pages};
-ghost use Rattle.scheduler.specs.Sendings.{Follows, Keeps};
+ghost use Rattle.scheduler.specs.Sendings.{IsSendingOf, KeepsPool};
 ghost use Rattle.wires.specs.Left.{TakesOne};
 ghost use Rattle.air.specs.Air.{IsAir};
 ghost use Rattle.air.specs.Left.{air_bits, bits_to_come, words_to_come};
@@ -30,7 +30,7 @@ pub struct AirBits<'a, L: Ledger> {
     /// How many of its bits are still to come.
     pending: u32,
     ghost within: { pending ≤ 32 },
-    ghost follows: { Follows order.sending pool.now },
+    ghost follows: { IsSendingOf order.sending pool.now },
     ghost empties: { bits_to_come pending word order pool.now ≡ [] → pages pool.now ≡ [] },
 }
 
@@ -60,7 +60,7 @@ impl<'a, L: Ledger> AirBits<'a, L> {
         ensures gives { MatchOption result ((words_to_come self.old.order self.old.pool.now ≡ []) × (words_to_come self.new.order self.new.pool.now ≡ []))
             (λ word. words_to_come self.old.order self.old.pool.now ≡ word ∷ words_to_come self.new.order self.new.pool.now) }
         ensures pending { self.new.pending ≡ self.old.pending }
-        ensures keeps { Keeps self.old.pool.now self.new.pool.now }
+        ensures keeps { KeepsPool self.old.pool.now self.new.pool.now }
         ensures later { self.old.steps.now ≤ self.new.steps.now }
     {
         self.order.next(self.pool, self.steps)
@@ -73,7 +73,7 @@ impl<'a, L: Ledger> AirBits<'a, L> {
         ensures same { bits_to_come self.new.pending self.new.word self.new.order self.new.pool.now ≡ bits_to_come self.old.pending self.old.word self.old.order self.old.pool.now }
         ensures begun { IsTrue result → 0 < self.new.pending }
         ensures ended { IsFalse result → bits_to_come self.old.pending self.old.word self.old.order self.old.pool.now ≡ [] }
-        ensures keeps { Keeps self.old.pool.now self.new.pool.now }
+        ensures keeps { KeepsPool self.old.pool.now self.new.pool.now }
     {
         if self.pending != 0 {
             return true;

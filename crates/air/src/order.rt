@@ -4,8 +4,8 @@ ghost use Rattle.std.specs.Prelude.{◌≡◌, ◌≢◌, ◌≤◌, ◌+◌, []
 ghost use Rattle.page_pool.specs.Pool.{pages};
 
 use crate::codewords::word;
-use crate::sender::{FILLER, PREAMBLE, SLOTS};
-use codeword::SYNC;
+use crate::sender::{FILLER, PREAMBLE};
+use codeword::{SLOTS, SYNC};
 use page_pool::Pool;
 use scheduler::sendings::Sending;
 use std::sync::ledger::Ledger;
@@ -22,15 +22,15 @@ pub struct Order {
 }
 
 impl Order {
-    ghost use Rattle.scheduler.specs.Sendings.{Follows, StandsAt};
-    ghost use Rattle.air.specs.Left.{AreFew, AreWords, Gives, slot_comes, steps_of, words_to_come};
+    ghost use Rattle.scheduler.specs.Sendings.{IsSendingOf, SendingStandsAt};
+    ghost use Rattle.air.specs.Left.{AreFew, AreWords, GivesWord, slot_comes, steps_of, words_to_come};
 
     /// The beginning of a transmission of the pool's pages.
     pub fn of(pool: &Pool) -> Order
-        ensures follows { Follows result.sending pool.now }
+        ensures follows { IsSendingOf result.sending pool.now }
         ensures words { AreWords (pages pool.now) (words_to_come result pool.now) }
         ensures few { pages pool.now ≢ [] → AreFew (pages pool.now) (words_to_come result pool.now) }
-        ensures stands { pages pool.now ≢ [] → StandsAt (pages pool.now) [] pool.now result.sending.place result.sending.before }
+        ensures stands { pages pool.now ≢ [] → SendingStandsAt (pages pool.now) [] pool.now result.sending.place result.sending.before }
     {
         let sending = Sending::begin();
         let preamble = if sending.is_done(pool) {
@@ -47,8 +47,8 @@ impl Order {
 
     /// The next word. None exactly at the end.
     pub fn next<L: Ledger>(&mut self, pool: &mut Pool, steps: &mut Steps<L>) -> Option<u32>
-        requires { Follows self.old.sending pool.old }
-        ensures gives { Gives result self.old pool.old self.new pool.new }
+        requires { IsSendingOf self.old.sending pool.old }
+        ensures gives { GivesWord result self.old pool.old self.new pool.new }
         ensures later { steps.old ≤ steps.new }
         ensures heads { steps.new ≤ steps.old + steps_of (slot_comes self.old) }
     {
@@ -60,7 +60,7 @@ impl Order {
             return None;
         }
         if self.room == 0 {
-            self.room = SLOTS as u32;
+            self.room = SLOTS;
             return Some(SYNC);
         }
         self.room -= 1;

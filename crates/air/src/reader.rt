@@ -3,7 +3,7 @@
 ghost use Rattle.std.specs.Prelude.{◌≡◌, ◌≢◌, ◌≤◌, ◌+◌, ◌++◌, ◌∷◌, [], ℕ, List, MatchOption};
 ghost use Rattle.page_text.specs.Page.{Page};
 ghost use Rattle.page_pool.specs.Pool.{pages};
-ghost use Rattle.scheduler.specs.Sendings.{Follows, Keeps};
+ghost use Rattle.scheduler.specs.Sendings.{IsSendingOf, KeepsPool};
 ghost use Rattle.scheduler.specs.declared.slots.Slot.{Slot};
 ghost use Rattle.air.specs.Left.{AreFew, AreWords, HasSlot, steps_of};
 
@@ -17,19 +17,19 @@ use wires::steps::Steps;
 pub struct Words<'a> {
     pool: &'a mut Pool,
     order: Order,
-    ghost follows: { Follows order.sending pool.now },
+    ghost follows: { IsSendingOf order.sending pool.now },
 }
 
 impl<'a> Words<'a> {
-    ghost use Rattle.air.specs.Readers.{Stands, lender, pool_of, slot_next, words_left};
+    ghost use Rattle.air.specs.Readers.{WordsStand, words_lender, words_pool, slot_next, words_left};
 
     /// Begins a transmission of the pool's pages.
     pub fn over(pool: &'a mut Pool) -> Words<'a>
-        ensures lends { lender result ≡ pool.entry.ghost_name }
-        ensures same { pool_of result ≡ pool.old }
+        ensures lends { words_lender result ≡ pool.entry.ghost_name }
+        ensures same { words_pool result ≡ pool.old }
         ensures words { AreWords (pages pool.old) (words_left result) }
         ensures few { pages pool.old ≢ [] → AreFew (pages pool.old) (words_left result) }
-        ensures stands { pages pool.old ≢ [] → Stands (pages pool.old) [] result }
+        ensures stands { pages pool.old ≢ [] → WordsStand (pages pool.old) [] result }
     {
         let order = Order::of(pool);
         Words { pool, order }
@@ -41,12 +41,12 @@ impl<'a> Words<'a> {
     /// It counts a step where it looks at the head of a page: at most one for the word of a slot, and none for a word of the preamble
     /// or a sync word.
     pub fn next<L: Ledger>(&mut self, steps: &mut Steps<L>) -> Option<u32>
-        ensures lends { lender self.new ≡ lender self.old }
+        ensures lends { words_lender self.new ≡ words_lender self.old }
         ensures gives { MatchOption result (words_left self.old ≡ []) (λ word. words_left self.old ≡ word ∷ words_left self.new) }
-        ensures ended { MatchOption result ((words_left self.new ≡ []) × (pages (pool_of self.new) ≡ [])) (λ word. Unit {0}) }
+        ensures ended { MatchOption result ((words_left self.new ≡ []) × (pages (words_pool self.new) ≡ [])) (λ word. Unit {0}) }
         ensures stands { (slots : List Slot) × HasSlot (slot_next self.old) result slots
-            × ((accepted : List Page) (given : List Slot) → Stands accepted given self.old → Stands accepted (given ++ slots) self.new) }
-        ensures keeps { Keeps (pool_of self.old) (pool_of self.new) }
+            × ((accepted : List Page) (given : List Slot) → WordsStand accepted given self.old → WordsStand accepted (given ++ slots) self.new) }
+        ensures keeps { KeepsPool (words_pool self.old) (words_pool self.new) }
         ensures later { steps.old ≤ steps.new }
         ensures heads { steps.new ≤ steps.old + steps_of (slot_next self.old) }
     {

@@ -5,16 +5,16 @@ ghost use Rattle.bits.specs.Bits.{words_bits};
 ghost use Rattle.codeword.specs.declared.words.TheConstants.{SYNC};
 ghost use Rattle.page_text.specs.Page.{Page};
 ghost use Rattle.page_pool.specs.Pool.{pages};
-ghost use Rattle.scheduler.specs.Sendings.{Keeps};
-ghost use Rattle.scheduler.specs.Pooled.{Stands, lender, pool_of, slots_left};
+ghost use Rattle.scheduler.specs.Sendings.{KeepsPool};
+ghost use Rattle.scheduler.specs.Pooled.{ScheduleStands, lender, pool_of, slots_left};
 ghost use Rattle.scheduler.specs.declared.slots.Slot.{Slot};
 ghost use Rattle.wires.specs.Written.{Puts};
 ghost use Rattle.air.specs.Air.{preamble, transmission};
-ghost use Rattle.air.specs.Sends.{HasBatches, Sends, Stops, most_slots, words_of};
+ghost use Rattle.air.specs.Sends.{HasBatches, SendsTransmission, SendingStops, most_slots, words_of_slots};
 
 use crate::codewords::word;
 use arrayvec::ArrayVec;
-use codeword::SYNC;
+use codeword::{BATCH_WORDS, SLOTS, SYNC};
 use page_pool::Pool;
 use scheduler::Schedule;
 use std::sync::ledger::Ledger;
@@ -28,11 +28,8 @@ pub(crate) const FILLER: u32 = 0xAAAA_AAAA;
 /// How many words the preamble has: 576 bits (M.584-2).
 pub(crate) const PREAMBLE: usize = 18;
 
-/// How many slots a batch has (M.584-2).
-pub(crate) const SLOTS: usize = 16;
-
-/// How many words a batch has: the sync word and its slots (M.584-2).
-const BATCH: usize = 1 + SLOTS;
+/// The room for the words of a batch.
+const BATCH: usize = BATCH_WORDS as usize;
 
 /// What was sent.
 #[derive(Clone, Copy, Debug, PartialEq, Eq)]
@@ -55,15 +52,15 @@ pub fn transmit<K: BitSink, L: Ledger>(
     sink: &mut K,
     steps: &mut Steps<L>,
 ) -> Result<Sent, Failed>
-    ensures sends { Sends (pages pool.old) (K.state sink.old) (K.state sink.new) result }
+    ensures sends { SendsTransmission (pages pool.old) (K.state sink.old) (K.state sink.new) result }
     ensures pages { IfOk result (λ sent. sent.pages ≡ length pool.old.live) }
     ensures batches { IfOk result (λ sent. HasBatches (pages pool.old) sent.batches) }
-    ensures few { IfOk result (λ sent. 16 * sent.batches ≤ most_slots (pages pool.old)) }
+    ensures few { IfOk result (λ sent. SLOTS * sent.batches ≤ most_slots (pages pool.old)) }
     ensures empties { OnOk result (pool.new.live ≡ []) }
-    ensures stops { OnErr result (Stops (pages pool.old) (K.state sink.old) (K.state sink.new) (pages pool.new)) }
-    ensures keeps { Keeps pool.old pool.new }
+    ensures stops { OnErr result (SendingStops (pages pool.old) (K.state sink.old) (K.state sink.new) (pages pool.new)) }
+    ensures keeps { KeepsPool pool.old pool.new }
     ensures later { steps.old ≤ steps.new }
-    ensures heads { IfOk result (λ sent. steps.new ≤ steps.old + 16 * sent.batches) }
+    ensures heads { IfOk result (λ sent. steps.new ≤ steps.old + SLOTS * sent.batches) }
 {
     let pages = pool.count();
     if pages == 0 {
@@ -80,16 +77,16 @@ fn send<K: BitSink, L: Ledger>(
     sink: &mut K,
     steps: &mut Steps<L>,
 ) -> Result<u32, Failed>
-    requires whole { (b : ℕ) × (length (slots_left schedule.old) ≡ 16 * b) }
+    requires whole { (b : ℕ) × (length (slots_left schedule.old) ≡ SLOTS * b) }
     requires few { length (slots_left schedule.old) < 2 ^ 32 }
     ensures lends { lender schedule.new ≡ lender schedule.old }
-    ensures puts { Puts (K.state sink.old) (K.state sink.new) (words_bits (transmission (words_of (slots_left schedule.old)))) result }
-    ensures batches { IfOk result (λ b. length (slots_left schedule.old) ≡ 16 * b) }
+    ensures puts { Puts (K.state sink.old) (K.state sink.new) (words_bits (transmission (words_of_slots (slots_left schedule.old)))) result }
+    ensures batches { IfOk result (λ b. length (slots_left schedule.old) ≡ SLOTS * b) }
     ensures empties { OnOk result (pages (pool_of schedule.new) ≡ []) }
-    ensures stops { OnErr result ((accepted : List Page) → Stands accepted [] schedule.old → Stops accepted (K.state sink.old) (K.state sink.new) (pages (pool_of schedule.new))) }
-    ensures keeps { Keeps (pool_of schedule.old) (pool_of schedule.new) }
+    ensures stops { OnErr result ((accepted : List Page) → ScheduleStands accepted [] schedule.old → SendingStops accepted (K.state sink.old) (K.state sink.new) (pages (pool_of schedule.new))) }
+    ensures keeps { KeepsPool (pool_of schedule.old) (pool_of schedule.new) }
     ensures later { steps.old ≤ steps.new }
-    ensures heads { IfOk result (λ b. steps.new ≤ steps.old + 16 * b) }
+    ensures heads { IfOk result (λ b. steps.new ≤ steps.old + SLOTS * b) }
 {
     send_preamble(sink)?;
     let mut batches = 0;
@@ -108,16 +105,16 @@ fn send_preamble<K: BitSink>(sink: &mut K) -> Result<(), Failed>
     sink.words(&[FILLER; PREAMBLE])
 }
 
-/// The next batch: the sync word and 16 slots.
+/// The next batch: the sync word and its slots.
 fn batch<L: Ledger>(schedule: &mut Schedule<'_>, steps: &mut Steps<L>) -> ArrayVec<u32, BATCH>
-    requires { 16 ≤ length (slots_left schedule.old) }
+    requires { SLOTS ≤ length (slots_left schedule.old) }
     ensures lends { lender schedule.new ≡ lender schedule.old }
-    ensures words { result.items ≡ SYNC ∷ words_of (take 16 (slots_left schedule.old)) }
-    ensures left { slots_left schedule.new ≡ drop 16 (slots_left schedule.old) }
-    ensures stands { (accepted : List Page) (given : List Slot) → Stands accepted given schedule.old → Stands accepted (given ++ take 16 (slots_left schedule.old)) schedule.new }
-    ensures keeps { Keeps (pool_of schedule.old) (pool_of schedule.new) }
+    ensures words { result.items ≡ SYNC ∷ words_of_slots (take SLOTS (slots_left schedule.old)) }
+    ensures left { slots_left schedule.new ≡ drop SLOTS (slots_left schedule.old) }
+    ensures stands { (accepted : List Page) (given : List Slot) → ScheduleStands accepted given schedule.old → ScheduleStands accepted (given ++ take SLOTS (slots_left schedule.old)) schedule.new }
+    ensures keeps { KeepsPool (pool_of schedule.old) (pool_of schedule.new) }
     ensures later { steps.old ≤ steps.new }
-    ensures heads { steps.new ≤ steps.old + 16 }
+    ensures heads { steps.new ≤ steps.old + SLOTS }
 {
     let mut words = ArrayVec::new();
     words.push(SYNC);

@@ -3,7 +3,8 @@ use Rattle.std.proofs.Common.{◌≡◌, ◌≢◌, ℕ, ◌+◌, ◌-◌, ◌*�
 use Rattle.std.specs.List.{AllByRecursion, flat_map}
 use Rattle.std.proofs.lemmas.List.{take_all, length-map, take-append-drop, length-take}
 use Rattle.std.proofs.lemmas.List.Sums.{sum_by-append}
-use Rattle.tap_block.specs.Chars.{cr, characters, char_of}
+use Rattle.entry_line.specs.Chars.{cr, char_of}
+use Rattle.tap_block.specs.Chars.{characters}
 use Rattle.tap_block.specs.Reading.{BeforeLogon, AfterLogon, Reads, logon, empty_line, is_logon, without_lf, mode_by, items_of}
 use Rattle.page_text.specs.Page.{Page as Accepted}
 use Rattle.tap_terminal.specs.declared.answers.Answer.{Answer}
@@ -16,10 +17,10 @@ use Rattle.tap_entry.specs.PagesFile.{IsPassword}
 use Rattle.tap_entry.specs.declared.hearing.Mark.{Mark}
 use Rattle.tap_entry.specs.declared.hearing.Mark.TheVariants.{Id as IdMark, Ack as AckMark, Nak as NakMark, Rs as RsMark, End as EndMark, Go as GoMark}
 use Rattle.tap_entry.specs.declared.outcomes.Outcome.{Outcome}
-use Rattle.tap_entry.specs.Client.{Page, IsPage, Client, silent, turned_away, still_calling, answered, IsCalling, DecidesLogon, naks, is_nak, logon_line, logons}
+use Rattle.tap_entry.specs.Client.{PageToSend, IsPage, Client, silent, turned_away, still_calling, answered, IsCalling, DecidesLogon, naks, is_nak, logon_line, logons}
 use Rattle.tap_entry.proofs.Counts.{naks_push}
 use Rattle.tap_entry.proofs.OneCut.{marks_found, marks_front}
-use Rattle.tap_entry.specs.Ears.{marks_of}
+use Rattle.tap_entry.specs.MarkReaders.{marks_of}
 use Rattle.both_ends.specs.Joined.{sent_of, AreFor, BothEnds}
 use Rattle.both_ends.proofs.JoinedPages.{take_over}
 use Rattle.both_ends.proofs.JoinedLogons.{ends, logon_text, logon_short, logon_no_cr, logon_item, line_first, IsWelcome, unwelcomed_answered}
@@ -93,14 +94,14 @@ welcome_short mine theirs directory spare more t answers accepted secret welcome
     omega (arith, w, n, m, p, q, r)
 
 -- the limit cuts nothing off
-whole : (mine theirs : Option (List ℕ)) (directory : Directory) (spare : ℕ) (pages : List Page) (h t : List ℕ) (marks : List Mark) (outcomes : List Outcome) (answers : List Answer) (accepted : List Accepted)
+whole : (mine theirs : Option (List ℕ)) (directory : Directory) (spare : ℕ) (pages : List PageToSend) (h t : List ℕ) (marks : List Mark) (outcomes : List Outcome) (answers : List Answer) (accepted : List Accepted)
     → AllByRecursion IsPage pages → length pages ≤ 1000 → IsPassword mine → AreHeard h marks → Client mine pages marks outcomes t → IsPlayed theirs directory spare t answers accepted → h ≡ replies answers
     → length (replies answers) ≤ 999999 → AreFor directory (sent_of pages outcomes) accepted
 whole mine theirs directory spare pages h t marks outcomes answers accepted good few secret are client session said short =
     let n : length (characters h) ≤ 999999 = (let a = length-map h char_of in let b = ap length said in omega (arith, a, b, short)) in
     ends mine theirs directory spare pages h t marks outcomes answers accepted good few secret (subst (λ z. AreMarks z marks) (take_all 999999 (characters h) n) are) client session said
 
-limited : (mine theirs : Option (List ℕ)) (directory : Directory) (spare : ℕ) (pages : List Page) (h t : List ℕ) (marks : List Mark) (outcomes : List Outcome) (answers : List Answer) (accepted : List Accepted)
+limited : (mine theirs : Option (List ℕ)) (directory : Directory) (spare : ℕ) (pages : List PageToSend) (h t : List ℕ) (marks : List Mark) (outcomes : List Outcome) (answers : List Answer) (accepted : List Accepted)
     → AllByRecursion IsPage pages → length pages ≤ 1000 → IsPassword mine → AreHeard h marks → Client mine pages marks outcomes t → IsPlayed theirs directory spare t answers accepted → h ≡ replies answers
     → AreFor directory (sent_of pages outcomes) accepted
 limited mine theirs directory spare pages h t marks outcomes answers accepted good few secret are client session said = by_client client

@@ -3,9 +3,10 @@ use Rattle.std.proofs.Common.{◌≡◌, ◌≢◌, ℕ, suc, zero, ◌+◌, ◌
 use Rattle.std.specs.List.{AllByRecursion}
 use Rattle.std.proofs.lemmas.Bool.{cases_lt}
 use Rattle.std.proofs.lemmas.Bool.Decides.{nat_tests}
-use Rattle.tap_block.specs.Chars.{stx, etx, etb, us, cr, sub}
+use Rattle.entry_line.specs.Chars.{cr}
+use Rattle.tap_block.specs.Chars.{stx, etx, etb, us, sub}
 use Rattle.tap_block.specs.Reading.{IsBody, IsBodyChar}
-use Rattle.tap_block.specs.Fields.{escaped, escape_of, parts_of, read_field, front}
+use Rattle.tap_block.specs.Fields.{escaped, escape_of, content_parts, read_field, front}
 use Rattle.tap_block.proofs.Values.{escaped_read, read_plain}
 use Rattle.tap_block.proofs.PartsOf.{parts_some}
 use Rattle.subscribers.specs.declared.subscriber.Subscriber.{Subscriber}
@@ -16,7 +17,7 @@ use Rattle.page_text.specs.FitTest.{fits}
 use Rattle.page_pool.specs.Cells.{cells_for}
 use Rattle.subscribers.specs.Directory.{Directory}
 use Rattle.tap_terminal.specs.Verdict.{Verdict, refused, values_of, room_for, text_for, judge_content}
-use Rattle.tap_entry.specs.Client.{Page, IsPage, content}
+use Rattle.tap_entry.specs.Client.{PageToSend, IsPage, content}
 
 -- what holds of all is so of parts
 pub all_append : (P : ℕ → Type 0) (x y : List ℕ) → AllByRecursion P x → AllByRecursion P y → AllByRecursion P (x ++ y)
@@ -81,7 +82,7 @@ digits_read [] h = refl
 digits_read (c ∷ x) h = let l = h.0.0 in let k = h.0.1 in read_plain c x (omega (arith, l)) (omega (arith, k)) ∙ ap (front (c ∷ [])) (digits_read x h.1)
 
 -- a content is a body but for its length
-pub content_body : (p : Page) → IsPage p → IsBody (content p)
+pub content_body : (p : PageToSend) → IsPage p → IsBody (content p)
 content_body p h = all_append IsBodyChar p.id (cr ∷ (escaped p.text ++ cr ∷ [])) (weak p.id (digits_plain p.id h.id_digits))
     (cr_body, all_append IsBodyChar (escaped p.text) (cr ∷ []) (weak (escaped p.text) (escaped_plain p.text)) (cr_body, tt))
   where
@@ -91,7 +92,7 @@ content_body p h = all_append IsBodyChar p.id (cr ∷ (escaped p.text ++ cr ∷ 
     cr_body : IsBodyChar cr
     cr_body = ((λ e. omega (arith, e)), (λ e. omega (arith, e)), (λ e. omega (arith, e)), (λ e. omega (arith, e)))
 
-pub content_length : (p : Page) → IsPage p → length (content p) ≤ 812
+pub content_length : (p : PageToSend) → IsPage p → length (content p) ≤ 812
 content_length p h =
     let a = length-append p.id (cr ∷ (escaped p.text ++ cr ∷ [])) in
     let b = length-append (escaped p.text) (cr ∷ []) in
@@ -100,11 +101,11 @@ content_length p h =
     let t = h.text_size in
     omega (arith, a, b, e, s, t)
 
-pub content_some : (p : Page) → IsPage p → 0 < length (content p)
+pub content_some : (p : PageToSend) → IsPage p → 0 < length (content p)
 content_some p h = let a = length-append p.id (cr ∷ (escaped p.text ++ cr ∷ [])) in omega (arith, a)
 
 -- the two fields come back
-pub content_values : (p : Page) → IsPage p → values_of (parts_of (content p)) ≡ Some (p.id, p.text)
+pub content_values : (p : PageToSend) → IsPage p → values_of (content_parts (content p)) ≡ Some (p.id, p.text)
 content_values p h =
     let parts = parts_some (content p) p.id (escaped p.text) (record {
       form = refl;
@@ -114,11 +115,11 @@ content_values p h =
     rw (parts, digits_read p.id h.id_digits, escaped_read p.text h.text_chars) refl
 
 -- a whole content is accepted as this page or refused
-pub data IsJudged (table : Directory) (p : Page) : Verdict → Type 0 where
+pub data IsJudged (table : Directory) (p : PageToSend) : Verdict → Type 0 where
   taken : (s : Subscriber) → table p.id ≡ Some s → IsJudged table p (record { answer = Ack; joined = []; page = Some (record { capcode = s.capcode; function = s.function; text = p.text }) })
   refused_for : (reason : Reason) → IsJudged table p (refused reason)
 
-pub judged : (table : Directory) (spare : ℕ) (p : Page) → IsPage p → IsJudged table p (judge_content table spare (content p))
+pub judged : (table : Directory) (spare : ℕ) (p : PageToSend) → IsPage p → IsJudged table p (judge_content table spare (content p))
 judged table spare p h = rw (content_values p h) (by_id (table p.id) refl)
   where
     by_room : (s : Subscriber) → table p.id ≡ Some s → (b : Bool) → IsJudged table p (cond b (refused Room) (record { answer = Ack; joined = []; page = Some (record { capcode = s.capcode; function = s.function; text = p.text }) }))

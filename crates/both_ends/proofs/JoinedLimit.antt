@@ -1,13 +1,14 @@
 -- The limit of a million characters drops nothing that matters.
 use Rattle.std.proofs.Common.{◌≡◌, ℕ, suc, ◌+◌, ◌*◌, ◌≤◌, cond, Bool, true, false, List, [], ◌∷◌, ◌++◌, length, take, refl, ap, sym, ◌∙◌, arith, append_assoc, Option, length-append, length-take}
-use Rattle.tap_block.specs.Chars.{stx, cr, end_char}
-use Rattle.tap_block.specs.Reading.{Mode, BeforeLogon, Piece, line, skipped, lone_eot, bye, dropped, block, text, Reads, Entry, items_of, mode_after}
+use Rattle.entry_line.specs.Chars.{cr}
+use Rattle.tap_block.specs.Chars.{stx, end_char}
+use Rattle.tap_block.specs.Reading.{Mode, BeforeLogon, InputPiece, line, skipped, lone_eot, bye, dropped, block, piece_text, Reads, Entry, items_of, mode_after}
 use Rattle.page_text.specs.Page.{Page}
 use Rattle.tap_terminal.specs.declared.answers.Answer.{Answer}
 use Rattle.tap_terminal.specs.declared.answers.Answer.TheVariants.{Nothing, Id, Go, Ack, Nak, Rs, End as EndAnswer}
 use Rattle.tap_terminal.specs.Replies.{reply_of, replies}
 use Rattle.subscribers.specs.Directory.{Directory}
-use Rattle.tap_terminal.specs.Session.{Course, Told, start, decide, tell, answers_of, is_end, closing, is_too_long}
+use Rattle.tap_terminal.specs.Session.{Course, ItemDecided, start, decide, tell, answers_of, is_end, closing, is_too_long}
 use Rattle.both_ends.proofs.JoinedSessions.{IsPlayed}
 
 -- a reply has at most six characters
@@ -35,7 +36,7 @@ told_few directory s (e ∷ items) = by_end_of (is_end (decide directory s e).to
     by_end_of false h = omega (arith, h)
 
 -- no more items than characters
-text_some : (p : Piece) → 1 ≤ length (text p)
+text_some : (p : InputPiece) → 1 ≤ length (piece_text p)
 text_some (line l) = let e = length-append l (cr ∷ []) in omega (arith, e)
 text_some (skipped c) = omega arith
 text_some lone_eot = omega arith
@@ -43,7 +44,7 @@ text_some bye = omega arith
 text_some (dropped b) = omega arith
 text_some (block b e t) = omega arith
 
-pub items_few : (password : Option (List ℕ)) (mode : Mode) (ps : List Piece) (r x : List ℕ) → Reads password mode ps r x → length (items_of password ps) ≤ length x
+pub items_few : (password : Option (List ℕ)) (mode : Mode) (ps : List InputPiece) (r x : List ℕ) → Reads password mode ps r x → length (items_of password ps) ≤ length x
 items_few password mode [] r x h = omega arith
 items_few password mode (line l ∷ ps) r x h = let k = items_few password (mode_after password (line l) mode) ps r h.0 h.3 in let e = ap length h.1 ∙ length-append (l ++ cr ∷ []) h.0 in let t = text_some (line l) in omega (arith, k, e, t)
 items_few password mode (skipped c ∷ ps) r x h = let k = items_few password (mode_after password (skipped c) mode) ps r h.0 h.3 in let e = ap length h.1 in omega (arith, k, e)
@@ -52,7 +53,7 @@ items_few password mode (bye ∷ ps) r x h = let k = items_few password (mode_af
 items_few password mode (dropped b ∷ ps) r x h = let k = items_few password (mode_after password (dropped b) mode) ps r h.0 h.3 in let e = ap length h.1 ∙ length-append (stx ∷ b) h.0 in omega (arith, k, e)
 items_few password mode (block b e t ∷ ps) r x h = let k = items_few password (mode_after password (block b e t) mode) ps r h.0 h.3 in let q = ap length h.1 ∙ length-append ((stx ∷ b) ++ end_char e ∷ t) h.0 in omega (arith, k, q)
 
-pub closing_one : (told : List Told) (n : ℕ) → length (closing told n) ≤ 1
+pub closing_one : (told : List ItemDecided) (n : ℕ) → length (closing told n) ≤ 1
 closing_one told n = by_test (is_too_long told n)
   where
     by_test : (b : Bool) → length (cond b (EndAnswer ∷ []) []) ≤ 1

@@ -2,8 +2,9 @@
 use Rattle.std.proofs.Common.{◌≡◌, ◌≢◌, ℕ, ◌+◌, ◌-◌, ◌*◌, ◌≤◌, cond, Bool, true, false, List, [], ◌∷◌, ◌++◌, length, take, refl, ap, sym, ◌∙◌, subst, arith, append_assoc, append-nil, Option, Some, None, length-append}
 use Rattle.std.specs.List.{AllByRecursion, flat_map}
 use Rattle.std.specs.Prelude.{codes}
-use Rattle.tap_block.specs.Chars.{cr, esc, characters}
-use Rattle.tap_block.specs.Reading.{BeforeLogon, AfterLogon, Piece, line, Reads, Entry, logon, empty_line, wrong_line, line_item, is_logon, without_lf, mode_by, items_of}
+use Rattle.entry_line.specs.Chars.{cr}
+use Rattle.tap_block.specs.Chars.{esc, characters}
+use Rattle.tap_block.specs.Reading.{BeforeLogon, AfterLogon, InputPiece, line, Reads, Entry, logon, empty_line, wrong_line, line_item, is_logon, without_lf, mode_by, items_of}
 use Rattle.both_ends.proofs.JoinedPieces.{goes_first}
 use Rattle.tap_terminal.specs.declared.answers.Answer.{Answer}
 use Rattle.page_text.specs.Page.{Page as Accepted}
@@ -14,7 +15,7 @@ use Rattle.tap_entry.specs.declared.hearing.Mark.{Mark}
 use Rattle.tap_entry.specs.declared.hearing.Mark.TheVariants.{Id as IdMark, Ack as AckMark, Nak as NakMark, End as EndMark, Go as GoMark}
 use Rattle.tap_entry.specs.declared.outcomes.Outcome.{Outcome}
 use Rattle.tap_entry.specs.declared.outcomes.Outcome.TheVariants.{NoLogon}
-use Rattle.tap_entry.specs.Client.{Page, IsPage, Client, silent, turned_away, still_calling, answered, IsCalling, DecidesLogon, is_nak, password_text, logon_line, logons, LogsOn, Sends, all_are}
+use Rattle.tap_entry.specs.Client.{PageToSend, IsPage, Client, silent, turned_away, still_calling, answered, IsCalling, DecidesLogon, is_nak, password_text, logon_line, logons, LogsOn, Sends, all_are}
 use Rattle.tap_terminal.specs.Replies.{replies}
 use Rattle.both_ends.specs.Joined.{sent_of, AreFor}
 use Rattle.tap_entry.specs.PagesFile.{IsPassword}
@@ -28,12 +29,12 @@ abbrev pub IsWelcome : Option (List ℕ) → Option (List ℕ) → Type 0
 IsWelcome mine theirs = is_logon theirs (without_lf (esc ∷ codes "PG1" ++ password_text mine)) ≡ true
 
 -- a line at the front is the first piece
-pub record LineFirst (password : Option (List ℕ)) (l next : List ℕ) (ps : List Piece) (r : List ℕ) : Type 0 where
-  pub others : List Piece
+pub record LineFirst (password : Option (List ℕ)) (l next : List ℕ) (ps : List InputPiece) (r : List ℕ) : Type 0 where
+  pub others : List InputPiece
   pub items : items_of password ps ≡ line_item password (without_lf l) ∷ items_of password others
   pub reads : Reads password (mode_by (line_item password (without_lf l)) BeforeLogon) others r next
 
-pub line_first : (password : Option (List ℕ)) (l next : List ℕ) (ps : List Piece) (r x : List ℕ) → AllByRecursion (λ c. c ≢ cr) l → x ≡ (l ++ cr ∷ []) ++ next → Reads password BeforeLogon ps r x → LineFirst password l next ps r
+pub line_first : (password : Option (List ℕ)) (l next : List ℕ) (ps : List InputPiece) (r x : List ℕ) → AllByRecursion (λ c. c ≢ cr) l → x ≡ (l ++ cr ∷ []) ++ next → Reads password BeforeLogon ps r x → LineFirst password l next ps r
 line_first password l next ps r x h e reads =
     let g = goes_first password BeforeLogon (line l) next ps r x e h reads in
     record { others = g.others; items = ap (items_of password) g.form; reads = g.reads }
@@ -66,7 +67,7 @@ flat_append (x ∷ xs) ys = ap (λ z. marks_for x ++ z) (flat_append xs ys) ∙ 
 
 -- What the terminal made of the CR and the logon: the marks, and what it reads on.
 record IsGreeted (theirs : Option (List ℕ)) (table : Directory) (spare : ℕ) (more : List ℕ) (marks : List Mark) (accepted : List Accepted) : Type 0 where
-  pieces : List Piece
+  pieces : List InputPiece
   rest : List ℕ
   room : ℕ
   enough : 836 * 1000 + 2 ≤ room
@@ -136,12 +137,12 @@ abbrev pub IsUnwelcome : Option (List ℕ) → Option (List ℕ) → Type 0
 IsUnwelcome mine theirs = is_logon theirs (without_lf (logon_text mine)) ≡ false
 
 -- one refused logon line more
-record IsShunned (theirs : Option (List ℕ)) (next : List ℕ) (ps : List Piece) (r : List ℕ) : Type 0 where
-  others : List Piece
+record IsShunned (theirs : Option (List ℕ)) (next : List ℕ) (ps : List InputPiece) (r : List ℕ) : Type 0 where
+  others : List InputPiece
   items : items_of theirs ps ≡ wrong_line ∷ items_of theirs others
   reads : Reads theirs BeforeLogon others r next
 
-shunned : (mine theirs : Option (List ℕ)) (n : ℕ) (next : List ℕ) (ps : List Piece) (r : List ℕ) → IsPassword mine → IsUnwelcome mine theirs → 11 ≤ n → Reads theirs BeforeLogon ps r (take n (logon_line mine ++ next))
+shunned : (mine theirs : Option (List ℕ)) (n : ℕ) (next : List ℕ) (ps : List InputPiece) (r : List ℕ) → IsPassword mine → IsUnwelcome mine theirs → 11 ≤ n → Reads theirs BeforeLogon ps r (take n (logon_line mine ++ next))
     → IsShunned theirs (take (n - length (logon_line mine)) next) ps r
 shunned mine theirs n next ps r secret un room reads =
     let short = logon_short mine secret in
@@ -219,7 +220,7 @@ away_no : (theirs : Option (List ℕ)) (table : Directory) (spare : ℕ) (t : Li
 away_no theirs table spare t marks answers accepted said_is session heard before rest no_id are =
     let p = prompted theirs table spare [] t marks answers accepted said_is session heard in no_end before rest p.0 no_id (sym are ∙ p.1)
 
-welcomed : (mine theirs : Option (List ℕ)) (table : Directory) (spare : ℕ) (pages : List Page) (t : List ℕ) (marks : List Mark) (outcomes : List Outcome) (answers : List Answer) (accepted : List Accepted)
+welcomed : (mine theirs : Option (List ℕ)) (table : Directory) (spare : ℕ) (pages : List PageToSend) (t : List ℕ) (marks : List Mark) (outcomes : List Outcome) (answers : List Answer) (accepted : List Accepted)
     → AllByRecursion IsPage pages → length pages ≤ 1000 → IsPassword mine → IsWelcome mine theirs → Client mine pages marks outcomes t
     → IsPlayed theirs table spare t answers accepted → marks ≡ flat_map marks_for answers → AreFor table (sent_of pages outcomes) accepted
 welcomed mine theirs table spare pages t marks outcomes answers accepted good few secret welcome client session heard = by_client client heard
@@ -311,12 +312,12 @@ none_before_is : (before since rest : List Mark) → AllByRecursion (λ m. (m �
 none_before_is [] since rest h e = refl
 none_before_is (b ∷ before) since rest h e = absurd (h.0.0 (head_is _ _ _ _ e))
 
-none_no_logon : (pages : List Page) → sent_of pages (all_are NoLogon pages) ≡ []
+none_no_logon : (pages : List PageToSend) → sent_of pages (all_are NoLogon pages) ≡ []
 none_no_logon [] = refl
 none_no_logon (p ∷ pages) = none_no_logon pages
 
 -- a refused client marks no page sent, whatever it hears behind the mark that decides
-pub unwelcomed_answered : (mine theirs : Option (List ℕ)) (table : Directory) (spare : ℕ) (pages : List Page) (t : List ℕ) (all : List Mark) (outcomes : List Outcome) (answers : List Answer) (accepted : List Accepted)
+pub unwelcomed_answered : (mine theirs : Option (List ℕ)) (table : Directory) (spare : ℕ) (pages : List PageToSend) (t : List ℕ) (all : List Mark) (outcomes : List Outcome) (answers : List Answer) (accepted : List Accepted)
     → IsPassword mine → IsUnwelcome mine theirs → IsPlayed theirs table spare t answers accepted → all ≡ flat_map marks_for answers
     → (before since : List Mark) (mark : Mark) (behind rest : List Mark) (more : List ℕ) → all ≡ before ++ IdMark ∷ (since ++ mark ∷ behind) → AllByRecursion (λ m. (m ≢ IdMark) × (m ≢ EndMark)) before
     → IsCalling since → DecidesLogon since mark → t ≡ cr ∷ (logons mine since ++ more) → LogsOn mark pages rest outcomes more → AreFor table (sent_of pages outcomes) accepted
@@ -329,7 +330,7 @@ unwelcomed_answered mine theirs table spare pages t all outcomes answers accepte
     let l : LogsOn EndMark pages rest outcomes more = subst (λ m. LogsOn m pages rest outcomes more) d.0 logs_on in
     subst (λ z. AreFor table (sent_of pages z) accepted) (sym l.0) (subst (λ z. AreFor table z accepted) (sym (none_no_logon pages)) (subst (λ z. AreFor table [] z) (sym d.1) tt))
 
-unwelcomed : (mine theirs : Option (List ℕ)) (table : Directory) (spare : ℕ) (pages : List Page) (t : List ℕ) (marks : List Mark) (outcomes : List Outcome) (answers : List Answer) (accepted : List Accepted)
+unwelcomed : (mine theirs : Option (List ℕ)) (table : Directory) (spare : ℕ) (pages : List PageToSend) (t : List ℕ) (marks : List Mark) (outcomes : List Outcome) (answers : List Answer) (accepted : List Accepted)
     → IsPassword mine → IsUnwelcome mine theirs → Client mine pages marks outcomes t
     → IsPlayed theirs table spare t answers accepted → marks ≡ flat_map marks_for answers → AreFor table (sent_of pages outcomes) accepted
 unwelcomed mine theirs table spare pages t marks outcomes answers accepted secret un client session heard = by_client client
@@ -354,7 +355,7 @@ unwelcomed mine theirs table spare pages t marks outcomes answers accepted secre
         let l : LogsOn EndMark pages s.rest outcomes s.more = subst (λ m. LogsOn m pages s.rest outcomes s.more) d.0 s.logs_on in
         nothing l.0 d.1
 
-pub ends : (mine theirs : Option (List ℕ)) (table : Directory) (spare : ℕ) (pages : List Page) (h t : List ℕ) (marks : List Mark) (outcomes : List Outcome) (answers : List Answer) (accepted : List Accepted)
+pub ends : (mine theirs : Option (List ℕ)) (table : Directory) (spare : ℕ) (pages : List PageToSend) (h t : List ℕ) (marks : List Mark) (outcomes : List Outcome) (answers : List Answer) (accepted : List Accepted)
     → AllByRecursion IsPage pages → length pages ≤ 1000 → IsPassword mine
     → AreMarks (characters h) marks → Client mine pages marks outcomes t → IsPlayed theirs table spare t answers accepted → h ≡ replies answers
     → AreFor table (sent_of pages outcomes) accepted

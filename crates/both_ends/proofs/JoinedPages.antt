@@ -7,8 +7,9 @@ use Rattle.std.proofs.lemmas.List.Sums.{sum_by-append}
 use Rattle.std.proofs.lemmas.Bool.Decides.{nat_tests}
 use Rattle.tap_block.specs.declared.ends.End.{End}
 use Rattle.tap_block.specs.declared.ends.End.TheVariants.{Etx, Us}
-use Rattle.tap_block.specs.Chars.{stx, cr, end_char, written, sum_of}
-use Rattle.tap_block.specs.Reading.{IsBody, IsBodyChar, AfterLogon, Piece, bye, Reads, Entry, a_block, items_of}
+use Rattle.entry_line.specs.Chars.{cr}
+use Rattle.tap_block.specs.Chars.{stx, end_char, written, sum_of}
+use Rattle.tap_block.specs.Reading.{IsBody, IsBodyChar, AfterLogon, InputPiece, bye, Reads, Entry, a_block, items_of}
 use Rattle.tap_block.specs.Fields.{block_of}
 use Rattle.both_ends.proofs.JoinedPieces.{goes_first}
 use Rattle.both_ends.proofs.JoinedPieces.{block_first}
@@ -21,7 +22,7 @@ use Rattle.tap_entry.specs.declared.hearing.Mark.{Mark}
 use Rattle.tap_entry.specs.declared.hearing.Mark.TheVariants.{Ack as AckMark, Rs as RsMark}
 use Rattle.tap_entry.specs.declared.outcomes.Outcome.{Outcome}
 use Rattle.tap_entry.specs.declared.outcomes.Outcome.TheVariants.{Sent, Abandoned, TriesSpent, Disconnected, NoLogon}
-use Rattle.tap_entry.specs.Client.{Page, IsPage, content, count_of, body_at, block_at, acks, is_ack, Decides, IsUndecided, said_after, good_bye, all_are, Follows, Sends}
+use Rattle.tap_entry.specs.Client.{PageToSend, IsPage, content, count_of, body_at, block_at, acks, is_ack, Decides, IsUndecided, said_after, good_bye, all_are, Follows, Sends}
 use Rattle.both_ends.specs.Joined.{sent_of, IsFor, AreFor}
 use Rattle.both_ends.proofs.JoinedReplies.{marks_for}
 use Rattle.both_ends.proofs.JoinedContents.{content_body, content_length, content_some, IsJudged, taken, refused_for, judged, all_take, all_drop}
@@ -41,7 +42,7 @@ fits_in table spare joined b e h k =
     rw (s, t) refl
 
 -- What a block of a page under way is answered.
-data Answered (table : Directory) (p : Page) (k : ℕ) (s : Course) (items others : List Entry) : Type 0 where
+data Answered (table : Directory) (p : PageToSend) (k : ℕ) (s : Course) (items others : List Entry) : Type 0 where
   further : k + 1 < count_of (content p) → (t : Course) → t.joined ≡ take (250 * (k + 1)) (content p)
       → heard_from table s items ≡ AckMark ∷ heard_from table t others → accepted_from table s items ≡ accepted_from table t others → Answered table p k s items others
   accepted : k + 1 ≡ count_of (content p) → (t : Course) → t.joined ≡ [] → (a : Accepted) → IsFor table p a
@@ -61,7 +62,7 @@ told_block : (table : Directory) (s : Course) (b : List ℕ) (e : End) (es : Lis
     → tell table s (a_block b e true ∷ es) ≡ (let d = decided (a_block b e true) s v in d.told ∷ cond (is_end d.told.answer) [] (tell table d.course es))
 told_block table s b e es v h = ap (λ w. let d = decided (a_block b e true) s w in d.told ∷ cond (is_end d.told.answer) [] (tell table d.course es)) h
 
-answered_more : (table : Directory) (p : Page) (k : ℕ) (s : Course) (others : List Entry) → IsPage p → k + 1 < count_of (content p)
+answered_more : (table : Directory) (p : PageToSend) (k : ℕ) (s : Course) (others : List Entry) → IsPage p → k + 1 < count_of (content p)
     → s.joined ≡ take (250 * k) (content p) → Answered table p k s (a_block (body_at (content p) k) Us true ∷ others) others
 answered_more table p k s others h more j =
     let b = body_at (content p) k in
@@ -73,7 +74,7 @@ answered_more table p k s others h more j =
     let t = told_block table s b Us others _ v in
     further more (record s { joined = s.joined ++ b; spare = s.spare - 0 }) lj (ap (λ z. flat_map marks_for (answers_of z)) t) (ap pages_of t)
 
-answered_last : (table : Directory) (p : Page) (k : ℕ) (s : Course) (others : List Entry) → IsPage p → k + 1 ≡ count_of (content p)
+answered_last : (table : Directory) (p : PageToSend) (k : ℕ) (s : Course) (others : List Entry) → IsPage p → k + 1 ≡ count_of (content p)
     → s.joined ≡ take (250 * k) (content p) → Answered table p k s (a_block (body_at (content p) k) Etx true ∷ others) others
 answered_last table p k s others h last j =
     let b = body_at (content p) k in
@@ -93,12 +94,12 @@ answered_last table p k s others h last j =
         given_up last (decided (a_block (body_at (content p) k) Etx true) s (refused reason)).course refl (ap (λ z. flat_map marks_for (answers_of z)) t) (ap pages_of t)
 
 -- The block is read and answered.
-record IsTaken (password : Option (List ℕ)) (table : Directory) (p : Page) (k : ℕ) (s : Course) (next : List ℕ) (ps : List Piece) (r : List ℕ) : Type 0 where
-  others : List Piece
+record IsTaken (password : Option (List ℕ)) (table : Directory) (p : PageToSend) (k : ℕ) (s : Course) (next : List ℕ) (ps : List InputPiece) (r : List ℕ) : Type 0 where
+  others : List InputPiece
   reads : Reads password AfterLogon others r next
   answered : Answered table p k s (items_of password ps) (items_of password others)
 
-taken_in : (password : Option (List ℕ)) (table : Directory) (p : Page) (k : ℕ) (s : Course) (next : List ℕ) (ps : List Piece) (r x : List ℕ) → IsPage p
+taken_in : (password : Option (List ℕ)) (table : Directory) (p : PageToSend) (k : ℕ) (s : Course) (next : List ℕ) (ps : List InputPiece) (r x : List ℕ) → IsPage p
     → k < count_of (content p) → s.joined ≡ take (250 * k) (content p) → x ≡ block_at (content p) k ++ next → Reads password AfterLogon ps r x
     → IsTaken password table p k s next ps r
 taken_in password table p k s next ps r x h few j form reads = by_end_of (k + 1 == count_of (content p)) refl
@@ -140,23 +141,23 @@ acks_push : (done : List Mark) → acks (done ++ AckMark ∷ []) ≡ acks done +
 acks_push done = sum_by-append (λ m. cond (is_ack m) 1 0) done (AckMark ∷ [])
 
 -- Every block is answered, and the answer to the last one decides: a page at block k, with j more behind it.
-abbrev NeverOpen : Option (List ℕ) → Directory → Page → List ℕ → List Mark → ℕ → ℕ → Type 0
+abbrev NeverOpen : Option (List ℕ) → Directory → PageToSend → List ℕ → List Mark → ℕ → ℕ → Type 0
 NeverOpen password table p r extra j k = (n : ℕ) → HasRoom (content p) k n 0 → k + suc j ≡ count_of (content p)
-    → (s : Course) (done marks : List Mark) (ps : List Piece) → acks done ≡ k → IsUndecided (count_of (content p)) (done ++ marks)
+    → (s : Course) (done marks : List Mark) (ps : List InputPiece) → acks done ≡ k → IsUndecided (count_of (content p)) (done ++ marks)
     → s.joined ≡ take (250 * k) (content p) → Reads password AfterLogon ps r (take n (block_at (content p) k ++ said_after (content p) k marks))
     → marks ≡ heard_from table s (items_of password ps) ++ extra → ⊥
 
-abbrev NeverBefore : Option (List ℕ) → Directory → Page → List ℕ → List Mark → ℕ → ℕ → Type 0
+abbrev NeverBefore : Option (List ℕ) → Directory → PageToSend → List ℕ → List Mark → ℕ → ℕ → Type 0
 NeverBefore password table p r extra zero k = Unit {0}
 NeverBefore password table p r extra (suc j) k = NeverOpen password table p r extra j k
 
-never_step : (password : Option (List ℕ)) (table : Directory) (p : Page) (r : List ℕ) (extra : List Mark) → IsPage p → (j k : ℕ) → NeverBefore password table p r extra j (k + 1) → NeverOpen password table p r extra j k
+never_step : (password : Option (List ℕ)) (table : Directory) (p : PageToSend) (r : List ℕ) (extra : List Mark) → IsPage p → (j k : ℕ) → NeverBefore password table p r extra j (k + 1) → NeverOpen password table p r extra j k
 never_step password table p r extra h j k before n room left s done marks ps ak undecided joined reads heard =
     let b = block_room (content p) k n 0 (omega (arith, left)) room in
     let t = taken_in password table p k s (take (n - length (block_at (content p) k)) (said_after (content p) k marks)) ps r _ h (omega (arith, left)) joined (take_over n (block_at (content p) k) (said_after (content p) k marks) b.0) reads in
     by_answer j left before t.others t.answered b.1 t.reads
   where
-    by_answer : (j : ℕ) → k + suc j ≡ count_of (content p) → NeverBefore password table p r extra j (k + 1) → (qs : List Piece) → Answered table p k s (items_of password ps) (items_of password qs)
+    by_answer : (j : ℕ) → k + suc j ≡ count_of (content p) → NeverBefore password table p r extra j (k + 1) → (qs : List InputPiece) → Answered table p k s (items_of password ps) (items_of password qs)
         → HasRoom (content p) (k + 1) (n - length (block_at (content p) k)) 0
         → Reads password AfterLogon qs r (take (n - length (block_at (content p) k)) (said_after (content p) k marks)) → ⊥
     by_answer j left again qs (accepted last t je a ia hm pm) left_room again_reads =
@@ -170,13 +171,13 @@ never_step password table p r extra h j k before n room left s done marks ps ak 
         (subst (λ z. IsUndecided (count_of (content p)) z) (ap (λ z. done ++ z) e ∙ sym (append_assoc done (AckMark ∷ []) _)) undecided) je
         (subst (λ z. Reads password AfterLogon qs r (take (n - length (block_at (content p) k)) (said_after (content p) k z))) e again_reads) refl
 
-never_open : (password : Option (List ℕ)) (table : Directory) (p : Page) (r : List ℕ) (extra : List Mark) → IsPage p → (j k : ℕ) → NeverOpen password table p r extra j k
+never_open : (password : Option (List ℕ)) (table : Directory) (p : PageToSend) (r : List ℕ) (extra : List Mark) → IsPage p → (j k : ℕ) → NeverOpen password table p r extra j k
 never_open password table p r extra h zero k = never_step password table p r extra h zero k tt
 never_open password table p r extra h (suc j) k = never_step password table p r extra h (suc j) k (never_open password table p r extra h j (k + 1))
 
 -- A page was decided, and what follows is read from here on.
-record IsPassed (password : Option (List ℕ)) (table : Directory) (p : Page) (s : Course) (r more : List ℕ) (rest extra : List Mark) (after : ℕ) (ps : List Piece) (outcome : Outcome) : Type 0 where
-  others : List Piece
+record IsPassed (password : Option (List ℕ)) (table : Directory) (p : PageToSend) (s : Course) (r more : List ℕ) (rest extra : List Mark) (after : ℕ) (ps : List InputPiece) (outcome : Outcome) : Type 0 where
+  others : List InputPiece
   room : ℕ
   enough : after ≤ room
   reads : Reads password AfterLogon others r (take room more)
@@ -186,14 +187,14 @@ record IsPassed (password : Option (List ℕ)) (table : Directory) (p : Page) (s
   result : ((outcome ≡ Sent) × ((a : Accepted) × IsFor table p a × (accepted_from table s (items_of password ps) ≡ a ∷ accepted_from table course (items_of password others))))
       ⊎ ((outcome ≡ Abandoned) × (accepted_from table s (items_of password ps) ≡ accepted_from table course (items_of password others)))
 
-abbrev Passes : Option (List ℕ) → Directory → Page → List ℕ → List ℕ → List Mark → List Mark → ℕ → Outcome → Mark → ℕ → ℕ → Type 0
+abbrev Passes : Option (List ℕ) → Directory → PageToSend → List ℕ → List ℕ → List Mark → List Mark → ℕ → Outcome → Mark → ℕ → ℕ → Type 0
 Passes password table p r more rest extra after outcome mark j k = (n : ℕ) → HasRoom (content p) k n after → k + suc j ≡ count_of (content p)
-    → (s : Course) (done since : List Mark) (ps : List Piece) → acks done ≡ k → IsUndecided (count_of (content p)) (done ++ since)
+    → (s : Course) (done since : List Mark) (ps : List InputPiece) → acks done ≡ k → IsUndecided (count_of (content p)) (done ++ since)
     → Decides (count_of (content p)) (done ++ since) mark outcome
     → s.joined ≡ take (250 * k) (content p) → Reads password AfterLogon ps r (take n (block_at (content p) k ++ (said_after (content p) k since ++ more)))
     → since ++ mark ∷ rest ≡ heard_from table s (items_of password ps) ++ extra → IsPassed password table p s r more rest extra after ps outcome
 
-abbrev PassesBefore : Option (List ℕ) → Directory → Page → List ℕ → List ℕ → List Mark → List Mark → ℕ → Outcome → Mark → ℕ → ℕ → Type 0
+abbrev PassesBefore : Option (List ℕ) → Directory → PageToSend → List ℕ → List ℕ → List Mark → List Mark → ℕ → Outcome → Mark → ℕ → ℕ → Type 0
 PassesBefore password table p r more rest extra after outcome mark zero k = Unit {0}
 PassesBefore password table p r more rest extra after outcome mark (suc j) k = Passes password table p r more rest extra after outcome mark j k
 
@@ -204,7 +205,7 @@ tail_is : (c d : Mark) (x y : List Mark) → c ∷ x ≡ d ∷ y → x ≡ y
 tail_is c d x y e = cc
 
 -- the same where the first mark is known
-passes_step : (password : Option (List ℕ)) (table : Directory) (p : Page) (r more : List ℕ) (rest extra : List Mark) (after : ℕ) (outcome : Outcome) (mark : Mark) → IsPage p → (j k : ℕ)
+passes_step : (password : Option (List ℕ)) (table : Directory) (p : PageToSend) (r more : List ℕ) (rest extra : List Mark) (after : ℕ) (outcome : Outcome) (mark : Mark) → IsPage p → (j k : ℕ)
     → PassesBefore password table p r more rest extra after outcome mark j (k + 1) → Passes password table p r more rest extra after outcome mark j k
 passes_step password table p r more rest extra after outcome mark h j k before n room left s done since ps ak undecided decides joined reads heard =
     let b = block_room (content p) k n after (omega (arith, left)) room in
@@ -213,7 +214,7 @@ passes_step password table p r more rest extra after outcome mark h j k before n
     by_answer j left before t.others t.answered b.1 since undecided decides heard t.reads
   where
     by_answer : (j : ℕ) → k + suc j ≡ count_of (content p) → PassesBefore password table p r more rest extra after outcome mark j (k + 1)
-        → (qs : List Piece) → Answered table p k s (items_of password ps) (items_of password qs) → HasRoom (content p) (k + 1) (n - length (block_at (content p) k)) after → (since : List Mark)
+        → (qs : List InputPiece) → Answered table p k s (items_of password ps) (items_of password qs) → HasRoom (content p) (k + 1) (n - length (block_at (content p) k)) after → (since : List Mark)
         → IsUndecided (count_of (content p)) (done ++ since) → Decides (count_of (content p)) (done ++ since) mark outcome
         → since ++ mark ∷ rest ≡ heard_from table s (items_of password ps) ++ extra
         → Reads password AfterLogon qs r (take (n - length (block_at (content p) k)) (said_after (content p) k since ++ more)) → IsPassed password table p s r more rest extra after ps outcome
@@ -256,18 +257,18 @@ passes_step password table p r more rest extra after outcome mark h j k before n
           result = from_there m.others m.course m.result;
         }
       where
-        from_there : (os : List Piece) (u : Course) → ((outcome ≡ Sent) × ((a : Accepted) × IsFor table p a × (accepted_from table t (items_of password qs) ≡ a ∷ accepted_from table u (items_of password os))))
+        from_there : (os : List InputPiece) (u : Course) → ((outcome ≡ Sent) × ((a : Accepted) × IsFor table p a × (accepted_from table t (items_of password qs) ≡ a ∷ accepted_from table u (items_of password os))))
             ⊎ ((outcome ≡ Abandoned) × (accepted_from table t (items_of password qs) ≡ accepted_from table u (items_of password os)))
             → ((outcome ≡ Sent) × ((a : Accepted) × IsFor table p a × (accepted_from table s (items_of password ps) ≡ a ∷ accepted_from table u (items_of password os))))
             ⊎ ((outcome ≡ Abandoned) × (accepted_from table s (items_of password ps) ≡ accepted_from table u (items_of password os)))
         from_there os u (inl (o, a)) = inl (o, (a.0, a.1, pm ∙ a.2))
         from_there os u (inr (o, a)) = inr (o, pm ∙ a)
 
-passes : (password : Option (List ℕ)) (table : Directory) (p : Page) (r more : List ℕ) (rest extra : List Mark) (after : ℕ) (outcome : Outcome) (mark : Mark) → IsPage p → (j k : ℕ) → Passes password table p r more rest extra after outcome mark j k
+passes : (password : Option (List ℕ)) (table : Directory) (p : PageToSend) (r more : List ℕ) (rest extra : List Mark) (after : ℕ) (outcome : Outcome) (mark : Mark) → IsPage p → (j k : ℕ) → Passes password table p r more rest extra after outcome mark j k
 passes password table p r more rest extra after outcome mark h zero k = passes_step password table p r more rest extra after outcome mark h zero k tt
 passes password table p r more rest extra after outcome mark h (suc j) k = passes_step password table p r more rest extra after outcome mark h (suc j) k (passes password table p r more rest extra after outcome mark h j (k + 1))
 
-none_sent : (outcome : Outcome) → outcome ≢ Sent → (pages : List Page) → sent_of pages (all_are outcome pages) ≡ []
+none_sent : (outcome : Outcome) → outcome ≢ Sent → (pages : List PageToSend) → sent_of pages (all_are outcome pages) ≡ []
 none_sent outcome ne [] = refl
 none_sent Sent ne (p ∷ pages) = absurd (ne refl)
 none_sent Abandoned ne (p ∷ pages) = none_sent Abandoned ne pages
@@ -275,19 +276,19 @@ none_sent TriesSpent ne (p ∷ pages) = none_sent TriesSpent ne pages
 none_sent Disconnected ne (p ∷ pages) = none_sent Disconnected ne pages
 none_sent NoLogon ne (p ∷ pages) = none_sent NoLogon ne pages
 
-some_block : (p : Page) → IsPage p → 0 + suc (count_of (content p) - 1) ≡ count_of (content p)
+some_block : (p : PageToSend) → IsPage p → 0 + suc (count_of (content p) - 1) ≡ count_of (content p)
 some_block p h = let n = content_some p h in omega (arith, n)
 
-page_room : (p : Page) (n pages : ℕ) → IsPage p → 836 * suc pages + 2 ≤ n → HasRoom (content p) 0 n 0 × HasRoom (content p) 0 n (836 * pages + 2)
+page_room : (p : PageToSend) (n pages : ℕ) → IsPage p → 836 * suc pages + 2 ≤ n → HasRoom (content p) 0 n 0 × HasRoom (content p) 0 n (836 * pages + 2)
 page_room p n pages h room = let c = content_length p h in (omega (arith, c, room), omega (arith, c, room))
 
 -- only EOT CR is said
-leaves : (password : Option (List ℕ)) (table : Directory) (s : Course) (ps : List Piece) (r t : List ℕ) (n : ℕ) → 2 ≤ n → t ≡ good_bye → Reads password AfterLogon ps r (take n t) → accepted_from table s (items_of password ps) ≡ []
+leaves : (password : Option (List ℕ)) (table : Directory) (s : Course) (ps : List InputPiece) (r t : List ℕ) (n : ℕ) → 2 ≤ n → t ≡ good_bye → Reads password AfterLogon ps r (take n t) → accepted_from table s (items_of password ps) ≡ []
 leaves password table s ps r t n room e reads = let g = goes_first password AfterLogon bye [] ps r (take n t) (ap (take n) e ∙ take_all n good_bye room) tt reads in ap (λ z. accepted_from table s (items_of password z)) g.form
 
 -- Both logged on: the pages that are marked sent are those accepted.
-pub sends_joined : (password : Option (List ℕ)) (table : Directory) (pages : List Page) → AllByRecursion IsPage pages
-    → (marks : List Mark) (outcomes : List Outcome) (t r : List ℕ) (s : Course) (ps : List Piece) (n : ℕ) (extra : List Mark) → 836 * length pages + 2 ≤ n → Sends pages marks outcomes t → s.joined ≡ []
+pub sends_joined : (password : Option (List ℕ)) (table : Directory) (pages : List PageToSend) → AllByRecursion IsPage pages
+    → (marks : List Mark) (outcomes : List Outcome) (t r : List ℕ) (s : Course) (ps : List InputPiece) (n : ℕ) (extra : List Mark) → 836 * length pages + 2 ≤ n → Sends pages marks outcomes t → s.joined ≡ []
     → Reads password AfterLogon ps r (take n t) → marks ≡ heard_from table s (items_of password ps) ++ extra
     → AreFor table (sent_of pages outcomes) (accepted_from table s (items_of password ps))
 sends_joined password table [] h marks outcomes t r s ps n extra room sends joined reads heard =
@@ -300,7 +301,7 @@ sends_joined password table (p ∷ pages) h marks outcomes t r s ps n extra room
     (subst (λ z. Reads password AfterLogon ps r (take n z)) (d.said_is ∙ append_assoc (block_at (content p) 0) (said_after (content p) 0 d.since) d.more) reads) (sym d.marks_are ∙ heard) in
     by_result m.course m.others m.result (λ sends. sends_joined password table pages h.1 d.rest d.others d.more r m.course m.others m.room extra m.enough sends m.joined m.reads m.heard)
   where
-    by_result : (u : Course) (os : List Piece) → ((d.outcome ≡ Sent) × ((a : Accepted) × IsFor table p a × (accepted_from table s (items_of password ps) ≡ a ∷ accepted_from table u (items_of password os))))
+    by_result : (u : Course) (os : List InputPiece) → ((d.outcome ≡ Sent) × ((a : Accepted) × IsFor table p a × (accepted_from table s (items_of password ps) ≡ a ∷ accepted_from table u (items_of password os))))
         ⊎ ((d.outcome ≡ Abandoned) × (accepted_from table s (items_of password ps) ≡ accepted_from table u (items_of password os)))
         → (Sends pages d.rest d.others d.more → AreFor table (sent_of pages d.others) (accepted_from table u (items_of password os)))
         → AreFor table (sent_of (p ∷ pages) outcomes) (accepted_from table s (items_of password ps))

@@ -1,12 +1,14 @@
 -- Replies are heard as their marks.
 use Rattle.std.proofs.Common.{◌≡◌, ◌≢◌, ℕ, List, [], ◌∷◌, ◌++◌, refl, ap, sym, ◌∙◌, append_assoc, append-nil, arith, ◌⊎◌, inl, inr}
 use Rattle.std.specs.List.{flat_map, filter_map}
-use Rattle.tap_block.specs.Chars.{cr, characters}
+use Rattle.entry_line.specs.Chars.{cr}
+use Rattle.tap_block.specs.Chars.{characters}
 use Rattle.tap_terminal.specs.declared.answers.Answer.{Answer}
 use Rattle.tap_terminal.specs.declared.answers.Answer.TheVariants.{Nothing, Id, Go, Ack, Nak, Rs, End}
 use Rattle.tap_entry.specs.declared.hearing.Mark.{Mark}
 use Rattle.tap_entry.specs.declared.hearing.Mark.TheVariants.{Id as IdMark, Ack as AckMark, Nak as NakMark, Rs as RsMark, End as EndMark, Go as GoMark}
-use Rattle.tap_entry.specs.Marks.{ack, nak, rs, prompt, IsOpen, IsPiece, Cuts, mark_of, without_lf, AreMarks}
+use Rattle.tap_block.specs.Reading.{without_lf}
+use Rattle.tap_entry.specs.Marks.{ack, nak, rs, prompt, IsOpen, IsPiece, Cuts, mark_of, AreMarks}
 use Rattle.tap_entry.proofs.Cutting.{ends_push, nil_open, stays_open, becomes_piece}
 use Rattle.tap_terminal.specs.Replies.{replies}
 

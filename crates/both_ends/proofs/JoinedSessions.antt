@@ -1,6 +1,6 @@
 -- A session by its parts.
 use Rattle.std.proofs.Common.{◌≡◌, ℕ, List, ◌++◌, length, take, ap, Option}
-use Rattle.tap_block.specs.Reading.{Piece, BeforeLogon, Reads, items_of}
+use Rattle.tap_block.specs.Reading.{InputPiece, BeforeLogon, Reads, items_of}
 use Rattle.page_text.specs.Page.{Page}
 use Rattle.tap_terminal.specs.declared.answers.Answer.{Answer}
 use Rattle.subscribers.specs.Directory.{Directory}
@@ -8,7 +8,7 @@ use Rattle.tap_terminal.specs.Session.{Session, IsSession, start, tell, answers_
 
 -- the answers and the pages of a session
 pub record IsPlayed (password : Option (List ℕ)) (table : Directory) (spare : ℕ) (x : List ℕ) (answers : List Answer) (pages : List Page) : Type 0 where
-  pub pieces : List Piece
+  pub pieces : List InputPiece
   pub rest : List ℕ
   pub reads : Reads password BeforeLogon pieces rest (take 999999 x)
   pub answers_are : answers ≡ answers_of (tell table (start spare) (items_of password pieces)) ++ closing (tell table (start spare) (items_of password pieces)) (length x)

@@ -3,8 +3,8 @@ use Rattle.std.proofs.Common.{◌≡◌, ℕ, ◌+◌, ◌*◌, ◌≤◌, cond,
 use Rattle.tap_block.specs.declared.ends.End.{End}
 use Rattle.tap_block.specs.declared.ends.End.TheVariants.{Etx, Etb, Us}
 use Rattle.tap_block.specs.Chars.{stx, end_char}
-use Rattle.tap_block.specs.Fields.{parts_of}
-use Rattle.tap_block.specs.Reading.{AfterLogon, Piece, line, skipped, lone_eot, bye, dropped, block, text, Reads, IsTrailer, a_block, is_right, items_of}
+use Rattle.tap_block.specs.Fields.{content_parts}
+use Rattle.tap_block.specs.Reading.{AfterLogon, InputPiece, line, skipped, lone_eot, bye, dropped, block, piece_text, Reads, IsTrailer, a_block, is_right, items_of}
 use Rattle.subscribers.specs.declared.subscriber.Subscriber.{Subscriber}
 use Rattle.tap_terminal.specs.declared.answers.Reason.TheVariants.{Room, Text, Body, Content}
 use Rattle.tap_terminal.specs.declared.answers.Answer.TheVariants.{Ack}
@@ -38,7 +38,7 @@ short_fields table spare None = omega arith
 short_fields table spare (Some (id, t)) = short_text (table id) t spare
 
 short_end : (table : Directory) (spare : ℕ) (e : End) (x : List ℕ) → IsShort (by_end table spare e x)
-short_end table spare Etx x = short_fields table spare (values_of (parts_of x))
+short_end table spare Etx x = short_fields table spare (values_of (content_parts x))
 short_end table spare Etb x = omega arith
 short_end table spare Us x = omega arith
 
@@ -56,7 +56,7 @@ trailer_some [] h = elim h [ ]
 trailer_some (c ∷ t) h = omega arith
 
 -- after the logon three characters of reply come with two at least, and one reply more at the end
-pub short_replies : (password : Option (List ℕ)) (table : Directory) (ps : List Piece) (r x : List ℕ) (s : Course) → Reads password AfterLogon ps r x
+pub short_replies : (password : Option (List ℕ)) (table : Directory) (ps : List InputPiece) (r x : List ℕ) (s : Course) → Reads password AfterLogon ps r x
     → 3 * length (replies (answers_of (tell table s (items_of password ps)))) ≤ 2 * length x + 9
 short_replies password table [] r x s h = omega arith
 short_replies password table (line l ∷ ps) r x s h = elim h.2 [ ]
@@ -71,14 +71,14 @@ short_replies password table (block b e t ∷ ps) r x s h =
     let v = verdict table s.spare s.joined b e (is_right b e t) in
     let d = decided (a_block b e (is_right b e t)) s v in
     let k = short_replies password table ps r h.0 d.course h.3 in
-    let q = ap length h.1 ∙ length-append (text (block b e t)) h.0 in
+    let q = ap length h.1 ∙ length-append (piece_text (block b e t)) h.0 in
     let w = length-append (stx ∷ b) (end_char e ∷ t) in
     let u = trailer_some t h.2.1 in
     by_end_of (is_end v.answer) (short_verdict table s.spare s.joined b e (is_right b e t)) k q w u
   where
     by_end_of : (c : Bool) → length (reply_of (verdict table s.spare s.joined b e (is_right b e t)).answer) ≤ 2
         → 3 * length (replies (answers_of (tell table (decided (a_block b e (is_right b e t)) s (verdict table s.spare s.joined b e (is_right b e t))).course (items_of password ps)))) ≤ 2 * length h.0 + 9
-        → length x ≡ length (text (block b e t)) + length h.0 → length (text (block b e t)) ≡ length (stx ∷ b) + length (end_char e ∷ t) → 1 ≤ length t
+        → length x ≡ length (piece_text (block b e t)) + length h.0 → length (piece_text (block b e t)) ≡ length (stx ∷ b) + length (end_char e ∷ t) → 1 ≤ length t
         → 3 * length (reply_of (verdict table s.spare s.joined b e (is_right b e t)).answer ++ replies (answers_of (cond c [] (tell table (decided (a_block b e (is_right b e t)) s (verdict table s.spare s.joined b e (is_right b e t))).course (items_of password ps))))) ≤ 2 * length x + 9
     by_end_of true a k q w u = let l = length-append (reply_of (verdict table s.spare s.joined b e (is_right b e t)).answer) [] in omega (arith, a, l, q, w, u)
     by_end_of false a k q w u = let l = length-append (reply_of (verdict table s.spare s.joined b e (is_right b e t)).answer) (replies (answers_of (tell table (decided (a_block b e (is_right b e t)) s (verdict table s.spare s.joined b e (is_right b e t))).course (items_of password ps)))) in omega (arith, a, k, l, q, w, u)

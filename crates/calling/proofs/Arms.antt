@@ -2,18 +2,18 @@
 use Rattle.std.proofs.Common.{◌≡◌, ◌≢◌, inl, inr, ℕ, List, [], ◌∷◌, ◌++◌, append-nil, append_assoc, length, drop, Option, refl, sym, ◌∙◌, ap, subst}
 use Rattle.std.specs.List.{AllByRecursion}
 use Rattle.std.specs.Option.{option_to_list}
-use Rattle.tap_block.specs.Chars.{cr}
+use Rattle.entry_line.specs.Chars.{cr}
 use Rattle.tap_entry.specs.declared.hearing.Mark.{Mark}
 use Rattle.tap_entry.specs.declared.hearing.Mark.TheVariants.{Id, Ack, Nak, Rs, End, Go}
 use Rattle.tap_entry.specs.declared.outcomes.Outcome.{Outcome}
 use Rattle.tap_entry.specs.declared.outcomes.Outcome.TheVariants.{TriesSpent, NoLogon}
 use Rattle.tap_entry.specs.declared.logon.CallStep.TheVariants.{Wait, SayLogon, Go as GoesOn, Refused}
-use Rattle.tap_entry.specs.Client.{Client, Page, Sends, DecidesLogon, IsCalling, LogsOn, all_are, logon_line, logons, turned_away, answered}
-use Rattle.tap_entry.specs.Ears.{Ear}
+use Rattle.tap_entry.specs.Client.{Client, PageToSend, Sends, DecidesLogon, IsCalling, LogsOn, all_are, logon_line, logons, turned_away, answered}
+use Rattle.tap_entry.specs.MarkReaders.{MarkReader}
 use Rattle.tap_entry.specs.Held.{Caller}
 use Rattle.tap_entry.specs.Marks.{AreMarks}
-use Rattle.tap_entry.specs.PagesFile.{Told}
-use Rattle.tap_entry.specs.States.{CallsOn, IsRefused}
+use Rattle.tap_entry.specs.PagesFile.{FileContent}
+use Rattle.tap_entry.specs.States.{CallsOn, IsClientRefused}
 use Rattle.tap_entry.proofs.FirstMarks.{one_first}
 use Rattle.wires.specs.Line.{Line}
 use Rattle.calling.specs.declared.stages.Ending.TheVariants.{Over}
@@ -26,16 +26,16 @@ use Rattle.endings.proofs.Lists.{all-append, all-map}
 use Rattle.calling.proofs.Moving.{silent_speaks, moved, no_go_before, one_id, calling_no_end, ignored_no_end}
 
 -- nothing is to be said, and the client goes on
-pub waits : (told : Told) (stage : _) (done : List Outcome) (x : List ℕ) (marks : List Mark) (said : List ℕ) (a : Line) → At told stage done x marks said → Moves told x said a a done (On stage)
+pub waits : (told : FileContent) (stage : _) (done : List Outcome) (x : List ℕ) (marks : List Mark) (said : List ℕ) (a : Line) → At told stage done x marks said → Moves told x said a a done (On stage)
 waits told stage done x marks said a h =
     moved told stage done x marks said [] a a (On stage) (subst (At told stage done x marks) (sym (append-nil said)) h) (inl (refl, silent_speaks a))
 
-pub call_waits : (told : Told) (c next : Caller) (done : List Outcome) (x y : List ℕ) (marks : List Mark) (said : List ℕ) (further : Option Mark) (a : Line) → (h : CallsAt told c done x marks said)
+pub call_waits : (told : FileContent) (c next : Caller) (done : List Outcome) (x y : List ℕ) (marks : List Mark) (said : List ℕ) (further : Option Mark) (a : Line) → (h : CallsAt told c done x marks said)
     → CallsOn c.password y (marks ++ option_to_list further) h.spoken (Wait next) → Moves told y said a a done (On (Calling next))
 call_waits told c next done x y marks said further a h k =
     waits told (Calling next) done y (marks ++ option_to_list further) said a (record { few = h.few; password = k.1 ∙ h.password; none = h.none; spoken = h.spoken; stands = k.0; said_is = h.said_is })
 
-pub call_says : (told : Told) (c next : Caller) (done : List Outcome) (x y : List ℕ) (marks : List Mark) (said : List ℕ) (further : Option Mark) (a b : Line) (step : Step) → (h : CallsAt told c done x marks said)
+pub call_says : (told : FileContent) (c next : Caller) (done : List Outcome) (x y : List ℕ) (marks : List Mark) (said : List ℕ) (further : Option Mark) (a b : Line) (step : Step) → (h : CallsAt told c done x marks said)
     → CallsOn c.password y (marks ++ option_to_list further) h.spoken (SayLogon next) → SpokeThen a b (logon_line next.password) (On (Calling next)) Pending step → Moves told y said a b done step
 call_says told c next done x y marks said further a b step h k s =
     moved told (Calling next) done y (marks ++ option_to_list further) said (logon_line next.password) a b step (record {
@@ -48,7 +48,7 @@ call_says told c next done x y marks said further a b step h k s =
     }) s
 
 -- the client is logged on
-pub logon_leads : (told : Told) (c : Caller) (next : Ear) (done : List Outcome) (x y : List ℕ) (marks : List Mark) (said : List ℕ) (further : Option Mark) → (h : CallsAt told c done x marks said)
+pub logon_leads : (told : FileContent) (c : Caller) (next : MarkReader) (done : List Outcome) (x y : List ℕ) (marks : List Mark) (said : List ℕ) (further : Option Mark) → (h : CallsAt told c done x marks said)
     → CallsOn c.password y (marks ++ option_to_list further) h.spoken (GoesOn next) → Between told (drop (length done) told.pages) (marks ++ option_to_list further) done said
 logon_leads told c next done x y marks said further h k =
     let past = marks ++ option_to_list further in
@@ -80,7 +80,7 @@ logon_leads told c next done x y marks said further h k =
     }
 
 -- the logon is decided against the client
-not_logged_on : (mark : Mark) (pages : List Page) → mark ≢ Go → LogsOn mark pages [] (all_are NoLogon pages) []
+not_logged_on : (mark : Mark) (pages : List PageToSend) → mark ≢ Go → LogsOn mark pages [] (all_are NoLogon pages) []
 not_logged_on Go pages h = absurd (h refl)
 not_logged_on Id pages h = (refl, refl)
 not_logged_on Ack pages h = (refl, refl)
@@ -88,7 +88,7 @@ not_logged_on Nak pages h = (refl, refl)
 not_logged_on Rs pages h = (refl, refl)
 not_logged_on End pages h = (refl, refl)
 
-refusal_ends : (told : Told) (before since : List Mark) (mark : Mark) (marks : List Mark) → marks ≡ before ++ Id ∷ (since ++ mark ∷ []) → AllByRecursion IsIgnored before → IsCalling since → DecidesLogon since mark → mark ≢ Go → EndsCall told marks
+refusal_ends : (told : FileContent) (before since : List Mark) (mark : Mark) (marks : List Mark) → marks ≡ before ++ Id ∷ (since ++ mark ∷ []) → AllByRecursion IsIgnored before → IsCalling since → DecidesLogon since mark → mark ≢ Go → EndsCall told marks
 refusal_ends told before since Go marks e i c d n = absurd (n refl)
 refusal_ends told before since End marks e i c d n = inl (before ++ Id ∷ since, ([], e ∙ sym (append_assoc before (Id ∷ since) (End ∷ []))))
 refusal_ends told before since Nak marks e i c d n = inr (inl (record { before = before; since = since; rest = []; marks_are = e; ignored = i; calling = c; third = d }))
@@ -96,7 +96,7 @@ refusal_ends told before since Id marks e i c d n = elim d [ ]
 refusal_ends told before since Ack marks e i c d n = elim d [ ]
 refusal_ends told before since Rs marks e i c d n = elim d [ ]
 
-refused_so : (told : Told) (c : Caller) (done : List Outcome) (x y : List ℕ) (old marks : List Mark) (said : List ℕ) (a : Line) → (h : CallsAt told c done x old said) → AreMarks y marks → IsRefused c.password marks h.spoken
+refused_so : (told : FileContent) (c : Caller) (done : List Outcome) (x y : List ℕ) (old marks : List Mark) (said : List ℕ) (a : Line) → (h : CallsAt told c done x old said) → AreMarks y marks → IsClientRefused c.password marks h.spoken
     → Moves told y said a a done (Ends (Over Pending))
 refused_so told c done x y old marks said a h m (inl (before, k)) =
     let all : AllByRecursion (λ m. m ≢ Id) marks = subst (AllByRecursion (λ m. m ≢ Id)) (sym k.0) (all-append (λ m. m ≢ Id) before (End ∷ []) (all-map IsIgnored (λ m. m ≢ Id) (λ m k. k.0) before k.1) ((λ e. cc), tt)) in
@@ -137,6 +137,6 @@ refused_so told c done x y old marks said a h m (inr (before, (since, (mark, k))
   stands = refusal_ends told before since mark marks k.0 k.1 k.2 k.3 k.4;
 }
 
-pub call_refused : (told : Told) (c : Caller) (done : List Outcome) (x y : List ℕ) (marks : List Mark) (said : List ℕ) (further : Option Mark) (a : Line) → (h : CallsAt told c done x marks said)
+pub call_refused : (told : FileContent) (c : Caller) (done : List Outcome) (x y : List ℕ) (marks : List Mark) (said : List ℕ) (further : Option Mark) (a : Line) → (h : CallsAt told c done x marks said)
     → CallsOn c.password y (marks ++ option_to_list further) h.spoken Refused → Moves told y said a a done (Ends (Over Pending))
 call_refused told c done x y marks said further a h k = refused_so told c done x y marks (marks ++ option_to_list further) said a h k.0 k.1

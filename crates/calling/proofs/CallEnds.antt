@@ -1,12 +1,13 @@
 -- A byte of a call is fed, and a call comes to its end.
 use Rattle.std.proofs.Common.{◌≡◌, inl, inr, ℕ, ◌+◌, ◌-◌, ◌≤◌, ◌<◌, List, [], ◌∷◌, ◌++◌, append-nil, length, length-append, take, Ok, Err, IsTrue, refl, sym, ◌∙◌, ap, subst, arith}
-use Rattle.tap_block.specs.Chars.{characters, char_of, cr}
+use Rattle.entry_line.specs.Chars.{cr, char_of}
+use Rattle.tap_block.specs.Chars.{characters}
 use Rattle.tap_entry.specs.declared.hearing.Mark.{Mark}
 use Rattle.tap_entry.specs.declared.outcomes.Outcome.{Outcome}
 use Rattle.tap_entry.specs.Client.{Client}
 use Rattle.tap_entry.specs.Held.{Caller}
 use Rattle.tap_entry.specs.Marks.{AreMarks}
-use Rattle.tap_entry.specs.PagesFile.{Told}
+use Rattle.tap_entry.specs.PagesFile.{FileContent}
 use Rattle.tap_entry.specs.States.{CallingFor}
 use Rattle.wires.specs.Below.{Speaks}
 use Rattle.wires.specs.Causes.{Rose}
@@ -20,7 +21,7 @@ use Rattle.calling.specs.declared.stages.Stage.{Stage}
 use Rattle.calling.specs.declared.stages.Stage.TheVariants.{Calling}
 use Rattle.calling.specs.declared.stages.Step.{Step}
 use Rattle.calling.specs.declared.stages.Step.TheVariants.{On, Ends}
-use Rattle.calling.specs.Conversations.{GoesOnSo, HasRoom, Held, IsTurnOf, IsWithinDue, UnderWay, deaf as is_deaf, long as is_long, mute as is_mute, silent as is_silent, through as is_through}
+use Rattle.calling.specs.Conversations.{GoesOnSo, HasRoom, CallStaysOpen, IsTurnOf, IsWithinDue, CallUnderWay, hear_failed as is_deaf, long as is_long, say_failed as is_mute, silent as is_silent, through as is_through}
 use Rattle.calling.specs.Progress.{At, Moves, logon_of_stage, outcomes_of}
 use Rattle.endings.specs.Talk.{here}
 use Rattle.calling.proofs.Calling.{early_on, early_still, fits_now, heard_first, heard_so, last_drops, said_here, turns_on, within_still}
@@ -35,7 +36,7 @@ use Rattle.endings.proofs.Talks.{calm_hears, calm_nothing, no_deaf, talked_deaf,
 few_fed : (left n : ℕ) → left + n ≡ 999999 → n ≤ 999999
 few_fed left n e = omega (arith, e)
 
-module _ (told : Told) (old mid now : Line) (stage : Stage) (left : ℕ) (done : List Outcome) (byte : ℕ) (heard ahead : List ℕ) (u : UnderWay told old mid stage left done heard (byte ∷ ahead)) where
+module _ (told : FileContent) (old mid now : Line) (stage : Stage) (left : ℕ) (done : List Outcome) (byte : ℕ) (heard ahead : List ℕ) (u : CallUnderWay told old mid stage left done heard (byte ∷ ahead)) where
   abbrev fed2 : List ℕ
   fed2 = u.fed ++ byte ∷ []
 
@@ -55,7 +56,7 @@ module _ (told : Told) (old mid now : Line) (stage : Stage) (left : ℕ) (done :
       (said_here told fed2 said marks outcomes (heard_so fed2 marks few (subst (λ z. AreMarks z marks) (sym (characters_on u.fed byte)) m)) c)
 
   goes_further : (stage2 : Stage) (left2 : ℕ) (done2 : List Outcome) → left2 + 1 ≡ left → Moves told (characters u.fed ++ char_of byte ∷ []) u.said mid now done2 (On stage2)
-      → UnderWay told old now stage2 left2 done2 heard ahead
+      → CallUnderWay told old now stage2 left2 done2 heard ahead
   goes_further stage2 left2 done2 e m =
       let few = few2 left2 e in
       let a : At told stage2 done2 (characters fed2) m.marks (u.said ++ m.piece) = subst (λ z. At told stage2 done2 z m.marks (u.said ++ m.piece)) (sym (characters_on u.fed byte)) m.stands in
@@ -76,7 +77,7 @@ module _ (told : Told) (old mid now : Line) (stage : Stage) (left : ℕ) (done :
       }
 
   through : (logon : Logon) (left2 : ℕ) (done2 : List Outcome) → left2 + 1 ≡ left → Moves told (characters u.fed ++ char_of byte ∷ []) u.said mid now done2 (Ends (Over logon))
-      → Held told old now (outcomes_of told logon done2) (Over logon)
+      → CallStaysOpen told old now (outcomes_of told logon done2) (Over logon)
   through logon left2 done2 e m =
       let few = few2 left2 e in
       let q = calm_speaks old mid now heard u.said u.turns m.piece _ u.line u.calm u.open_stays m.spoke in
@@ -103,9 +104,9 @@ module _ (told : Told) (old mid now : Line) (stage : Stage) (left : ℕ) (done :
         hang = m.spoke.around.hang ∙ u.hang;
       }
 
-  mute : (logon : Logon) (left2 : ℕ) (done2 : List Outcome) → left2 + 1 ≡ left → Moves told (characters u.fed ++ char_of byte ∷ []) u.said mid now done2 (Ends (Lost logon))
-      → Held told old now (outcomes_of told logon done2) (Lost logon)
-  mute logon left2 done2 e m =
+  say_failed : (logon : Logon) (left2 : ℕ) (done2 : List Outcome) → left2 + 1 ≡ left → Moves told (characters u.fed ++ char_of byte ∷ []) u.said mid now done2 (Ends (Lost logon))
+      → CallStaysOpen told old now (outcomes_of told logon done2) (Lost logon)
+  say_failed logon left2 done2 e m =
       let few = few2 left2 e in
       let few1 : length u.fed ≤ 999999 = few_fed left (length u.fed) u.left_is in
       let k = talked_speaks_cut {T = Unit {0}} old mid now heard u.said u.turns m.piece m.spoke.0 u.line u.open_stays m.spoke.1 in
@@ -146,12 +147,12 @@ module _ (told : Told) (old mid now : Line) (stage : Stage) (left : ℕ) (done :
   pub fed_on : (step : Step) (left2 : ℕ) (done2 : List Outcome) → left2 + 1 ≡ left → Moves told (characters u.fed ++ char_of byte ∷ []) u.said mid now done2 step → GoesOnSo told old now left2 done2 heard ahead step
   fed_on (On stage2) left2 done2 e m = goes_further stage2 left2 done2 e m
   fed_on (Ends (Over logon)) left2 done2 e m = through logon left2 done2 e m
-  fed_on (Ends (Lost logon)) left2 done2 e m = mute logon left2 done2 e m
+  fed_on (Ends (Lost logon)) left2 done2 e m = say_failed logon left2 done2 e m
 
 -- the 1,000,000th character
-pub too_many : (told : Told) (old now : Line) (stage : Stage) (left : ℕ) (done : List Outcome) (byte : ℕ) (heard ahead : List ℕ) (logon : Logon) → UnderWay told old now stage left done heard (byte ∷ ahead) → left ≡ 0 → logon ≡ logon_of_stage stage
-    → Held told old now (outcomes_of told logon done) (Over logon)
-too_many told old now stage left done byte heard ahead logon u z e = subst (λ l. Held told old now (outcomes_of told l done) (Over l)) (sym e) (by_stage)
+pub too_many : (told : FileContent) (old now : Line) (stage : Stage) (left : ℕ) (done : List Outcome) (byte : ℕ) (heard ahead : List ℕ) (logon : Logon) → CallUnderWay told old now stage left done heard (byte ∷ ahead) → left ≡ 0 → logon ≡ logon_of_stage stage
+    → CallStaysOpen told old now (outcomes_of told logon done) (Over logon)
+too_many told old now stage left done byte heard ahead logon u z e = subst (λ l. CallStaysOpen told old now (outcomes_of told l done) (Over l)) (sym e) (by_stage)
   where
     many : length u.fed ≡ 999999
     many = let a = u.left_is in omega (arith, a, z)
@@ -159,7 +160,7 @@ too_many told old now stage left done byte heard ahead logon u z e = subst (λ l
     all : length (u.fed ++ byte ∷ []) ≡ 1000000
     all = let b = length-append u.fed (byte ∷ []) in omega (arith, many, b)
 
-    by_stage : Held told old now (outcomes_of told (logon_of_stage stage) done) (Over (logon_of_stage stage))
+    by_stage : CallStaysOpen told old now (outcomes_of told (logon_of_stage stage) done) (Over (logon_of_stage stage))
     by_stage = record {
       came = record {
         heard = heard;
@@ -184,8 +185,8 @@ too_many told old now stage left done byte heard ahead logon u z e = subst (λ l
     }
 
 -- more was heard
-pub hears_more : {E : Type 0} (told : Told) (old mid now : Line) (stage : Stage) (left : ℕ) (done : List Outcome) (heard buffer : List ℕ) (n : ℕ) → UnderWay told old mid stage left done heard [] → 0 < n → Hears {E = E} mid now buffer (Ok n)
-    → UnderWay told old now stage left done (heard ++ take n buffer) (take n buffer)
+pub hears_more : {E : Type 0} (told : FileContent) (old mid now : Line) (stage : Stage) (left : ℕ) (done : List Outcome) (heard buffer : List ℕ) (n : ℕ) → CallUnderWay told old mid stage left done heard [] → 0 < n → Hears {E = E} mid now buffer (Ok n)
+    → CallUnderWay told old now stage left done (heard ++ take n buffer) (take n buffer)
 hears_more {E} told old mid now stage left done heard buffer n u lt h =
     let bytes = take n buffer in
     let all : u.fed ≡ heard = sym (u.heard_is ∙ append-nil u.fed) in
@@ -219,13 +220,13 @@ hears_more {E} told old mid now stage left done heard buffer n u lt h =
     }
 
 -- nothing was left to be heard
-pub silent : {E : Type 0} (told : Told) (old mid now : Line) (stage : Stage) (left : ℕ) (done : List Outcome) (heard buffer : List ℕ) (n : ℕ) (logon : Logon) → UnderWay told old mid stage left done heard [] → n ≡ 0 → Hears {E = E} mid now buffer (Ok n)
-    → logon ≡ logon_of_stage stage → Held told old now (outcomes_of told logon done) (Over logon)
+pub silent : {E : Type 0} (told : FileContent) (old mid now : Line) (stage : Stage) (left : ℕ) (done : List Outcome) (heard buffer : List ℕ) (n : ℕ) (logon : Logon) → CallUnderWay told old mid stage left done heard [] → n ≡ 0 → Hears {E = E} mid now buffer (Ok n)
+    → logon ≡ logon_of_stage stage → CallStaysOpen told old now (outcomes_of told logon done) (Over logon)
 silent {E} told old mid now stage left done heard buffer n logon u z j e =
     let h : Hears {E = E} mid now buffer (Ok 0) = subst (λ (k : ℕ). Hears {E = E} mid now buffer (Ok k)) z j in
     let m = calm_hears old mid now heard u.said u.turns buffer 0 u.line u.calm u.open_stays h in
     let few : length u.fed ≤ 999999 = few_fed left (length u.fed) u.left_is in
-    subst (λ l. Held told old now (outcomes_of told l done) (Over l)) (sym e) (record {
+    subst (λ l. CallStaysOpen told old now (outcomes_of told l done) (Over l)) (sym e) (record {
       came = record {
         heard = heard;
         fed = u.fed;
@@ -256,11 +257,11 @@ silent {E} told old mid now stage left done heard buffer n logon u z j e =
     })
 
 -- a hear failed
-pub deaf : {E : Type 0} (told : Told) (old mid now : Line) (stage : Stage) (left : ℕ) (done : List Outcome) (heard buffer : List ℕ) (x : E) (logon : Logon) → UnderWay told old mid stage left done heard [] → Hears mid now buffer (Err x)
-    → logon ≡ logon_of_stage stage → Held told old now (outcomes_of told logon done) (Lost logon)
-deaf {E} told old mid now stage left done heard buffer x logon u h e =
+pub hear_failed : {E : Type 0} (told : FileContent) (old mid now : Line) (stage : Stage) (left : ℕ) (done : List Outcome) (heard buffer : List ℕ) (x : E) (logon : Logon) → CallUnderWay told old mid stage left done heard [] → Hears mid now buffer (Err x)
+    → logon ≡ logon_of_stage stage → CallStaysOpen told old now (outcomes_of told logon done) (Lost logon)
+hear_failed {E} told old mid now stage left done heard buffer x logon u h e =
     let few : length u.fed ≤ 999999 = few_fed left (length u.fed) u.left_is in
-    subst (λ l. Held told old now (outcomes_of told l done) (Lost l)) (sym e) (record {
+    subst (λ l. CallStaysOpen told old now (outcomes_of told l done) (Lost l)) (sym e) (record {
       came = record {
         heard = heard;
         fed = u.fed;
@@ -290,15 +291,15 @@ deaf {E} told old mid now stage left done heard buffer x logon u h e =
     })
 
 -- a call isn't under way after a million bytes
-pub too_long : {B : Type 0} (told : Told) (old mid : Line) (stage : Stage) (left : ℕ) (done : List Outcome) (heard : List ℕ) → UnderWay told old mid stage left done heard [] → 1000000 ≤ length heard → B
+pub too_long : {B : Type 0} (told : FileContent) (old mid : Line) (stage : Stage) (left : ℕ) (done : List Outcome) (heard : List ℕ) → CallUnderWay told old mid stage left done heard [] → 1000000 ≤ length heard → B
 too_long told old mid stage left done heard u h =
     let a = u.left_is in
     let b = ap length (u.heard_is ∙ append-nil u.fed) in
     absurd (omega (arith, h, a, b))
 
 -- the first CR couldn't be said
-pub no_first : (told : Told) (c : Caller) (old now : Line) (done : List Outcome) (x : Failed) → length told.pages ≤ 1000 → c.password ≡ told.password → CallingFor c [] [] [] → done ≡ [] → Speaks {T = Unit {0}} old now (cr ∷ []) (Err x)
-    → Held told old now (outcomes_of told Pending done) (Lost Pending)
+pub no_first : (told : FileContent) (c : Caller) (old now : Line) (done : List Outcome) (x : Failed) → length told.pages ≤ 1000 → c.password ≡ told.password → CallingFor c [] [] [] → done ≡ [] → Speaks {T = Unit {0}} old now (cr ∷ []) (Err x)
+    → CallStaysOpen told old now (outcomes_of told Pending done) (Lost Pending)
 no_first told c old now done x few e k n s =
     let a : At told (Calling c) done [] [] (cr ∷ []) = record { few = few; password = e; none = n; spoken = []; stands = k; said_is = refl } in
     let q = talked_speaks_cut {T = Unit {0}} old old now [] [] [] (cr ∷ []) x (talked_nothing old) refl s in

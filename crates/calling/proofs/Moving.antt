@@ -1,14 +1,14 @@
 -- Where a client stands, and what it would come to if nothing more were heard.
 use Rattle.std.proofs.Common.{◌≡◌, ◌≢◌, inl, inr, ℕ, List, [], ◌∷◌, ◌++◌, append-nil, append_assoc, length, drop, Ok, Option, Some, None, refl, sym, ◌∙◌, ap, subst, arith}
 use Rattle.std.specs.List.{AllByRecursion}
-use Rattle.tap_block.specs.Chars.{cr}
+use Rattle.entry_line.specs.Chars.{cr}
 use Rattle.tap_entry.specs.declared.hearing.Mark.{Mark}
 use Rattle.tap_entry.specs.declared.hearing.Mark.TheVariants.{Id, Nak, End, Go}
 use Rattle.tap_entry.specs.declared.outcomes.Outcome.{Outcome}
 use Rattle.tap_entry.specs.declared.outcomes.Outcome.TheVariants.{TriesSpent, Disconnected, NoLogon}
-use Rattle.tap_entry.specs.Client.{Client, Page, IsUndecided, all_are, content, count_of, good_bye, said_for, IsCalling, DecidesLogon, silent, still_calling}
+use Rattle.tap_entry.specs.Client.{Client, PageToSend, IsUndecided, all_are, content, count_of, good_bye, said_for, IsCalling, DecidesLogon, silent, still_calling}
 use Rattle.tap_entry.specs.Marks.{AreMarks}
-use Rattle.tap_entry.specs.PagesFile.{Told}
+use Rattle.tap_entry.specs.PagesFile.{FileContent}
 use Rattle.tap_entry.specs.States.{CallsSo}
 use Rattle.tap_entry.proofs.FirstMarks.{one_first, places, same, before, behind, all_at}
 use Rattle.tap_entry.proofs.OneClient.{one_client}
@@ -105,13 +105,13 @@ go_no_refusal marks g h =
     let w = one_first DecidesLogon (g.since ++ Go ∷ g.rest) g.since Go g.rest h.since Nak h.rest (record { form = refl; none = g.calling; decides = tt }) (record { form = e; none = h.calling; decides = h.third }) in
     let q = w.1 in cc
 
-calls_client : (password : Option (List ℕ)) (pages : List Page) (marks : List Mark) (r : Option ℕ) (spoken : List ℕ) → CallsSo password marks r spoken → Client password pages marks (all_are NoLogon pages) (cr ∷ spoken)
+calls_client : (password : Option (List ℕ)) (pages : List PageToSend) (marks : List Mark) (r : Option ℕ) (spoken : List ℕ) → CallsSo password marks r spoken → Client password pages marks (all_are NoLogon pages) (cr ∷ spoken)
 calls_client password pages marks None spoken k = silent (record { no_id = ignored_no_id marks k.0; outcomes_are = refl; said_is = ap (λ z. cr ∷ z) k.1 })
 calls_client password pages marks (Some n) spoken (front, (since, k)) =
     still_calling (record { before = front; since = since; marks_are = k.0; ignored = k.1; calling = k.2; outcomes_are = refl; said_is = ap (λ z. cr ∷ z) k.5 })
 
 -- what a client would come to if nothing more were heard
-pub at_client : (told : Told) (stage : Stage) (done : List Outcome) (x : List ℕ) (marks : List Mark) (said : List ℕ) → At told stage done x marks said
+pub at_client : (told : FileContent) (stage : Stage) (done : List Outcome) (x : List ℕ) (marks : List Mark) (said : List ℕ) → At told stage done x marks said
     → Client told.password told.pages marks (outcomes_of told (logon_of_stage stage) done) said
 at_client told (Calling c) done x marks said h =
     subst (λ d. Client told.password told.pages marks (outcomes_of told Pending d) said) (sym h.none)
@@ -129,34 +129,34 @@ at_client told (Leaving e) done x marks said h =
     (subst (λ z. Client told.password told.pages z (done ++ []) said) (sym h.marks_are)
     (subst (λ z. Client told.password told.pages (h.past ++ h.since) (done ++ []) z) (sym h.said_is) w))
 
-pub at_logon : (told : Told) (stage : Stage) (done : List Outcome) (x : List ℕ) (marks : List Mark) (said : List ℕ) → At told stage done x marks said → IsLogon (logon_of_stage stage) marks
+pub at_logon : (told : FileContent) (stage : Stage) (done : List Outcome) (x : List ℕ) (marks : List Mark) (said : List ℕ) → At told stage done x marks said → IsLogon (logon_of_stage stage) marks
 at_logon told (Calling c) done x marks said h = calls_no_go c.password marks c.refusals h.spoken h.stands.calls
 at_logon told (Sending s) done x marks said h = subst HeardGo (sym h.marks_are) (go_on h.past h.since h.between.go)
 at_logon told (Leaving e) done x marks said h = subst HeardGo (sym h.marks_are) (go_on h.past h.since h.between.go)
 
-pub at_marks : (told : Told) (stage : Stage) (done : List Outcome) (x : List ℕ) (marks : List Mark) (said : List ℕ) → At told stage done x marks said → AreMarks x marks
+pub at_marks : (told : FileContent) (stage : Stage) (done : List Outcome) (x : List ℕ) (marks : List Mark) (said : List ℕ) → At told stage done x marks said → AreMarks x marks
 at_marks told (Calling c) done x marks said h = marks_heard c.ear x marks h.stands.hears
 at_marks told (Sending s) done x marks said h = subst (AreMarks x) (sym h.marks_are) (marks_heard s.ear x (h.past ++ h.since) h.stands.hears)
 at_marks told (Leaving e) done x marks said h = marks_heard e x marks h.stands
 
-pub at_no_end : (told : Told) (stage : Stage) (done : List Outcome) (x : List ℕ) (marks : List Mark) (said : List ℕ) → At told stage done x marks said → AllByRecursion (λ m. m ≢ End) marks
+pub at_no_end : (told : FileContent) (stage : Stage) (done : List Outcome) (x : List ℕ) (marks : List Mark) (said : List ℕ) → At told stage done x marks said → AllByRecursion (λ m. m ≢ End) marks
 at_no_end told (Calling c) done x marks said h = calls_no_end c.password marks c.refusals h.spoken h.stands.calls
 at_no_end told (Sending s) done x marks said h =
     subst (AllByRecursion (λ m. m ≢ End)) (sym h.marks_are) (all-append (λ m. m ≢ End) h.past h.since h.between.no_end (undecided_no_end (count_of s.content) h.since h.stands.undecided))
 at_no_end told (Leaving e) done x marks said h = subst (AllByRecursion (λ m. m ≢ End)) (sym h.marks_are) (all-append (λ m. m ≢ End) h.past h.since h.between.no_end h.no_end)
 
-at_no_refusal : (told : Told) (stage : Stage) (done : List Outcome) (x : List ℕ) (marks : List Mark) (said : List ℕ) → At told stage done x marks said → RefusesLogon marks → ⊥
+at_no_refusal : (told : FileContent) (stage : Stage) (done : List Outcome) (x : List ℕ) (marks : List Mark) (said : List ℕ) → At told stage done x marks said → RefusesLogon marks → ⊥
 at_no_refusal told (Calling c) done x marks said h r = calls_no_refusal c.password marks c.refusals h.spoken h.stands.calls r
 at_no_refusal told (Sending s) done x marks said h r = go_no_refusal marks (at_logon told (Sending s) done x marks said h) r
 at_no_refusal told (Leaving e) done x marks said h r = go_no_refusal marks (at_logon told (Leaving e) done x marks said h) r
 
 -- no page is TriesSpent
-at_unspent : (told : Told) (stage : Stage) (done : List Outcome) (x : List ℕ) (marks : List Mark) (said : List ℕ) → At told stage done x marks said → AllByRecursion (λ o. o ≢ TriesSpent) done
+at_unspent : (told : FileContent) (stage : Stage) (done : List Outcome) (x : List ℕ) (marks : List Mark) (said : List ℕ) → At told stage done x marks said → AllByRecursion (λ o. o ≢ TriesSpent) done
 at_unspent told (Calling c) done x marks said h = subst (AllByRecursion (λ o. o ≢ TriesSpent)) (sym h.none) tt
 at_unspent told (Sending s) done x marks said h = h.between.unspent
 at_unspent told (Leaving e) done x marks said h = h.between.unspent
 
-all_the_same : (o : Outcome) (pages : List Page) → o ≢ TriesSpent → AllByRecursion (λ o. o ≢ TriesSpent) (all_are o pages)
+all_the_same : (o : Outcome) (pages : List PageToSend) → o ≢ TriesSpent → AllByRecursion (λ o. o ≢ TriesSpent) (all_are o pages)
 all_the_same o [] h = tt
 all_the_same o (p ∷ pages) h = (h, all_the_same o pages h)
 
@@ -165,7 +165,7 @@ not_spent Pending = λ e. cc
 not_spent Granted = λ e. cc
 
 -- the marks so far don't end the call
-pub at_goes_on : (told : Told) (stage : Stage) (done : List Outcome) (x : List ℕ) (marks : List Mark) (said : List ℕ) → At told stage done x marks said → EndsCall told marks → ⊥
+pub at_goes_on : (told : FileContent) (stage : Stage) (done : List Outcome) (x : List ℕ) (marks : List Mark) (said : List ℕ) → At told stage done x marks said → EndsCall told marks → ⊥
 at_goes_on told stage done x marks said h (inl e) = all_at (λ m. m ≢ End) e.0 End e.1.0 (subst (AllByRecursion (λ m. m ≢ End)) e.1.1 (at_no_end told stage done x marks said h)) refl
 at_goes_on told stage done x marks said h (inr (inl r)) = at_no_refusal told stage done x marks said h r
 at_goes_on told stage done x marks said h (inr (inr s)) =
@@ -174,7 +174,7 @@ at_goes_on told stage done x marks said h (inr (inr s)) =
     all_there (λ o. o ≢ TriesSpent) s.before TriesSpent s.behind (subst (AllByRecursion (λ o. o ≢ TriesSpent)) (w.0 ∙ s.spent) a) refl
 
 -- the client goes on, or saying the piece failed
-pub moved : (told : Told) (stage : Stage) (done : List Outcome) (x : List ℕ) (marks : List Mark) (said piece : List ℕ) (old new : Line) (step : Step) → At told stage done x marks (said ++ piece)
+pub moved : (told : FileContent) (stage : Stage) (done : List Outcome) (x : List ℕ) (marks : List Mark) (said piece : List ℕ) (old new : Line) (step : Step) → At told stage done x marks (said ++ piece)
     → SpokeThen old new piece (On stage) (logon_of_stage stage) step → Moves told x said old new done step
 moved told stage done x marks said piece old new step h (inl s) = subst (Moves told x said old new done) (sym s.0) (record {
   marks = marks;

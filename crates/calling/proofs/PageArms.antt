@@ -8,12 +8,12 @@ use Rattle.tap_entry.specs.declared.outcomes.Outcome.{Outcome}
 use Rattle.tap_entry.specs.declared.outcomes.Outcome.TheVariants.{Sent, Abandoned, TriesSpent, Disconnected, NoLogon}
 use Rattle.tap_entry.specs.declared.transfer.SendStep.TheVariants.{Wait as WaitOn, Done}
 use Rattle.tap_entry.specs.declared.goodbye.LeaveStep.TheVariants.{Wait as WaitOut, Gone}
-use Rattle.tap_entry.specs.Client.{Client, Page, Sends, Follows, Decides, IsUndecided, all_are, block_at, content, count_of, good_bye, said_for}
-use Rattle.tap_entry.specs.Ears.{Ear, StandsFor}
+use Rattle.tap_entry.specs.Client.{Client, PageToSend, Sends, Follows, Decides, IsUndecided, all_are, block_at, content, count_of, good_bye, said_for}
+use Rattle.tap_entry.specs.MarkReaders.{MarkReader, ReaderStandsFor}
 use Rattle.tap_entry.specs.Held.{Sender}
 use Rattle.tap_entry.specs.Marks.{AreMarks}
-use Rattle.tap_entry.specs.PagesFile.{Told}
-use Rattle.tap_entry.specs.States.{IsDone, LeavesOn, SendingFor, SendsOn}
+use Rattle.tap_entry.specs.PagesFile.{FileContent}
+use Rattle.tap_entry.specs.States.{IsPageDecided, LeavesOn, SendingFor, SendsOn}
 use Rattle.wires.specs.Line.{Line}
 use Rattle.calling.specs.declared.stages.Ending.TheVariants.{Over}
 use Rattle.calling.specs.declared.stages.Logon.TheVariants.{Granted}
@@ -26,7 +26,7 @@ use Rattle.calling.proofs.Moving.{silent_speaks, moved, go_on, undecided_no_end}
 use Rattle.calling.proofs.Arms.{waits}
 
 -- the page's marks go on, and this is said for them
-pub page_on : (told : Told) (s next : Sender) (done : List Outcome) (x y : List ℕ) (marks : List Mark) (said piece : List ℕ) (further : Option Mark) → (h : SendsAt told s done x marks said)
+pub page_on : (told : FileContent) (s next : Sender) (done : List Outcome) (x y : List ℕ) (marks : List Mark) (said piece : List ℕ) (further : Option Mark) → (h : SendsAt told s done x marks said)
     → SendingFor next y h.past (h.since ++ option_to_list further) → next.content ≡ s.content → said_for s.content (h.since ++ option_to_list further) ≡ said_for s.content h.since ++ piece
     → SendsAt told next done y (h.past ++ (h.since ++ option_to_list further)) (said ++ piece)
 page_on told s next done x y marks said piece further h k e f = record {
@@ -44,14 +44,14 @@ page_on told s next done x y marks said piece further h k e f = record {
       ∙ ap (λ z. h.spoken ++ z) (sym (subst (λ z. said_for z (h.since ++ option_to_list further) ≡ said_for z h.since ++ piece) h.content_is f)));
 }
 
-pub send_waits : (told : Told) (s next : Sender) (done : List Outcome) (x y : List ℕ) (marks : List Mark) (said : List ℕ) (further : Option Mark) (a : Line) → (h : SendsAt told s done x marks said)
+pub send_waits : (told : FileContent) (s next : Sender) (done : List Outcome) (x y : List ℕ) (marks : List Mark) (said : List ℕ) (further : Option Mark) (a : Line) → (h : SendsAt told s done x marks said)
     → SendsOn s.content y h.past h.since further (WaitOn next) → Moves told y said a a done (On (Sending next))
 send_waits told s next done x y marks said further a h k =
     waits told (Sending next) done y (h.past ++ (h.since ++ option_to_list further)) said a
     (subst (SendsAt told next done y (h.past ++ (h.since ++ option_to_list further))) (append-nil said) (page_on told s next done x y marks said [] further h k.0 k.1 (k.2 ∙ sym (append-nil (said_for s.content h.since)))))
 
 -- a block is said, the same or the next
-pub send_says : (told : Told) (s next : Sender) (done : List Outcome) (x y : List ℕ) (marks : List Mark) (said : List ℕ) (further : Option Mark) (a b : Line) (step : Step) → (h : SendsAt told s done x marks said)
+pub send_says : (told : FileContent) (s next : Sender) (done : List Outcome) (x y : List ℕ) (marks : List Mark) (said : List ℕ) (further : Option Mark) (a b : Line) (step : Step) → (h : SendsAt told s done x marks said)
     → SendingFor next y h.past (h.since ++ option_to_list further) × (next.content ≡ s.content)
     × (said_for s.content (h.since ++ option_to_list further) ≡ said_for s.content h.since ++ block_at s.content next.acks)
     → SpokeThen a b (block_at next.content next.acks) (On (Sending next)) Granted step → Moves told y said a b done step
@@ -66,22 +66,22 @@ behind_first zero (p ∷ pages) page left e = cc
 behind_first (suc n) [] page left e = cc
 behind_first (suc n) (p ∷ pages) page left e = behind_first n pages page left e ∙ ap (λ k. drop k (p ∷ pages)) (let q : suc (n + 1) ≡ suc n + 1 = omega arith in q)
 
-left_behind : (told : Told) (done : List Outcome) (page : Page) (left : List Page) (outcome : Outcome) → page ∷ left ≡ drop (length done) told.pages → left ≡ drop (length (done ++ outcome ∷ [])) told.pages
+left_behind : (told : FileContent) (done : List Outcome) (page : PageToSend) (left : List PageToSend) (outcome : Outcome) → page ∷ left ≡ drop (length done) told.pages → left ≡ drop (length (done ++ outcome ∷ [])) told.pages
 left_behind told done page left outcome e = behind_first (length done) told.pages page left e ∙ ap (λ n. drop n told.pages) (let q : length done + 1 ≡ length (done ++ outcome ∷ []) = omega (arith, length-append done (outcome ∷ [])) in q)
 
 -- there is room for one outcome more
-some_left : (n : ℕ) (pages : List Page) (page : Page) (left : List Page) → page ∷ left ≡ drop n pages → n + 1 ≤ length pages
+some_left : (n : ℕ) (pages : List PageToSend) (page : PageToSend) (left : List PageToSend) → page ∷ left ≡ drop n pages → n + 1 ≤ length pages
 some_left zero [] page left e = cc
 some_left zero (p ∷ pages) page left e = omega arith
 some_left (suc n) [] page left e = cc
 some_left (suc n) (p ∷ pages) page left e = let d = some_left n pages page left e in omega (arith, d)
 
-pub room_for : (told : Told) (done : List Outcome) (page : Page) (left : List Page) → length told.pages ≤ 1000 → page ∷ left ≡ drop (length done) told.pages → length done + 1 ≤ 1000
+pub room_for : (told : FileContent) (done : List Outcome) (page : PageToSend) (left : List PageToSend) → length told.pages ≤ 1000 → page ∷ left ≡ drop (length done) told.pages → length done + 1 ≤ 1000
 room_for told done page left few e = let d = some_left (length done) told.pages page left e in omega (arith, d, few)
 
 -- a decided page in the definition
-decided_so : (told : Told) (s : Sender) (done : List Outcome) (x : List ℕ) (marks : List Mark) (said : List ℕ) (further : Option Mark) (outcome : Outcome) (r : List Mark) (others : List Outcome) (more : List ℕ)
-    → (h : SendsAt told s done x marks said) → IsDone s.content h.since further outcome → Follows outcome h.left (Sends h.left r) others more
+decided_so : (told : FileContent) (s : Sender) (done : List Outcome) (x : List ℕ) (marks : List Mark) (said : List ℕ) (further : Option Mark) (outcome : Outcome) (r : List Mark) (others : List Outcome) (more : List ℕ)
+    → (h : SendsAt told s done x marks said) → IsPageDecided s.content h.since further outcome → Follows outcome h.left (Sends h.left r) others more
     → Client told.password told.pages ((h.past ++ (h.since ++ option_to_list further)) ++ r) ((done ++ outcome ∷ []) ++ others) (said ++ more)
 decided_so told s done x marks said further outcome r others more h d f =
     let u : IsUndecided (count_of (content h.page)) h.since = subst (λ z. IsUndecided (count_of z) h.since) h.content_is h.stands.undecided in
@@ -108,7 +108,7 @@ decided_so told s done x marks said further outcome r others more h d f =
     (subst (λ z. Client told.password told.pages (h.past ++ (h.since ++ d.mark ∷ r)) z (said ++ more)) o
     (subst (λ z. Client told.password told.pages (h.past ++ (h.since ++ d.mark ∷ r)) (done ++ outcome ∷ others) z) t w))
 
-follows_on : (outcome : Outcome) (left : List Page) (on : List Outcome → List ℕ → Type 0) (others : List Outcome) (more : List ℕ) → (outcome ≡ Sent) ⊎ (outcome ≡ Abandoned) → on others more → Follows outcome left on others more
+follows_on : (outcome : Outcome) (left : List PageToSend) (on : List Outcome → List ℕ → Type 0) (others : List Outcome) (more : List ℕ) → (outcome ≡ Sent) ⊎ (outcome ≡ Abandoned) → on others more → Follows outcome left on others more
 follows_on Sent left on others more k w = w
 follows_on Abandoned left on others more k w = w
 follows_on NoLogon left on others more k w = w
@@ -131,7 +131,7 @@ no_end_so m since Rs outcome d k = λ e. cc
 no_end_so m since Go outcome d k = λ e. cc
 
 -- the page is Sent or Abandoned, and the next one may begin
-pub page_leads : (told : Told) (s : Sender) (next : Ear) (done done2 : List Outcome) (x y : List ℕ) (marks : List Mark) (said : List ℕ) (further : Option Mark) (outcome : Outcome) → (h : SendsAt told s done x marks said)
+pub page_leads : (told : FileContent) (s : Sender) (next : MarkReader) (done done2 : List Outcome) (x y : List ℕ) (marks : List Mark) (said : List ℕ) (further : Option Mark) (outcome : Outcome) → (h : SendsAt told s done x marks said)
     → SendsOn s.content y h.past h.since further (Done next outcome) → done2 ≡ done ++ outcome ∷ []
     → Between told (drop (length done2) told.pages) (h.past ++ (h.since ++ option_to_list further)) done2 said
 page_leads told s next done done2 x y marks said further outcome h k e =
@@ -150,8 +150,8 @@ page_leads told s next done done2 x y marks said further outcome h k e =
     })
 
 -- the page is TriesSpent or Disconnected, and the call is over
-closed_client : (told : Told) (s : Sender) (done : List Outcome) (x : List ℕ) (marks : List Mark) (said : List ℕ) (further : Option Mark) (outcome : Outcome) (piece : List ℕ)
-    → (h : SendsAt told s done x marks said) → IsDone s.content h.since further outcome → Follows outcome h.left (Sends h.left []) (all_are Disconnected h.left) piece
+closed_client : (told : FileContent) (s : Sender) (done : List Outcome) (x : List ℕ) (marks : List Mark) (said : List ℕ) (further : Option Mark) (outcome : Outcome) (piece : List ℕ)
+    → (h : SendsAt told s done x marks said) → IsPageDecided s.content h.since further outcome → Follows outcome h.left (Sends h.left []) (all_are Disconnected h.left) piece
     → Client told.password told.pages (h.past ++ (h.since ++ option_to_list further)) (outcomes_of told Granted (done ++ outcome ∷ [])) (said ++ piece)
 closed_client told s done x marks said further outcome piece h d f =
     let l = left_behind told done h.page h.left outcome h.between.left_is in
@@ -167,13 +167,13 @@ end_so m since Nak d = let e = d.3 in cc
 end_so m since Rs d = cc
 end_so m since Go d = elim d [ ]
 
-closing : (told : Told) (done : List Outcome) (y : List ℕ) (now : List Mark) (said piece : List ℕ) (a b : Line) (step : Step) → AreMarks y now → Client told.password told.pages now (outcomes_of told Granted done) (said ++ piece) → HeardGo now → EndsCall told now
+closing : (told : FileContent) (done : List Outcome) (y : List ℕ) (now : List Mark) (said piece : List ℕ) (a b : Line) (step : Step) → AreMarks y now → Client told.password told.pages now (outcomes_of told Granted done) (said ++ piece) → HeardGo now → EndsCall told now
     → SpokeThen a b piece (Ends (Over Granted)) Granted step → Moves told y said a b done step
 closing told done y now said piece a b step m c go o (inl w) = subst (Moves told y said a b done) (sym w.0) (record { marks = now; piece = piece; marks_are = m; client = c; logon = go; spoke = w.1; stands = o })
 closing told done y now said piece a b step m c go o (inr w) = subst (Moves told y said a b done) (sym w.0) (record { marks = now; piece = piece; marks_are = m; client = c; logon = go; spoke = w.1; stands = tt })
 
-pub page_closed : (told : Told) (s : Sender) (done done2 : List Outcome) (x y : List ℕ) (marks : List Mark) (said : List ℕ) (further : Option Mark) (outcome : Outcome) (a b : Line) (step : Step) → (h : SendsAt told s done x marks said)
-    → AreMarks y (h.past ++ (h.since ++ option_to_list further)) → IsDone s.content h.since further outcome → (outcome ≡ TriesSpent) ⊎ (outcome ≡ Disconnected) → done2 ≡ done ++ outcome ∷ []
+pub page_closed : (told : FileContent) (s : Sender) (done done2 : List Outcome) (x y : List ℕ) (marks : List Mark) (said : List ℕ) (further : Option Mark) (outcome : Outcome) (a b : Line) (step : Step) → (h : SendsAt told s done x marks said)
+    → AreMarks y (h.past ++ (h.since ++ option_to_list further)) → IsPageDecided s.content h.since further outcome → (outcome ≡ TriesSpent) ⊎ (outcome ≡ Disconnected) → done2 ≡ done ++ outcome ∷ []
     → (outcome ≡ TriesSpent → SpokeThen a b good_bye (Ends (Over Granted)) Granted step) → (outcome ≢ TriesSpent → SpokeThen a b [] (Ends (Over Granted)) Granted step) → Moves told y said a b done2 step
 page_closed told s done done2 x y marks said further TriesSpent a b step h m d o e w v =
     let c = closed_client told s done x marks said further TriesSpent good_bye h d (refl, refl) in
@@ -192,7 +192,7 @@ page_closed told s done done2 x y marks said further NoLogon a b step h m d (inl
 page_closed told s done done2 x y marks said further NoLogon a b step h m d (inr o) e w v = cc
 
 -- the first block of the next page
-pub page_begins : (told : Told) (e : Ear) (s : Sender) (page : Page) (left : List Page) (done : List Outcome) (x : List ℕ) (past : List Mark) (said : List ℕ) (a b : Line) (step : Step) → Between told (drop (length done) told.pages) past done said
+pub page_begins : (told : FileContent) (e : MarkReader) (s : Sender) (page : PageToSend) (left : List PageToSend) (done : List Outcome) (x : List ℕ) (past : List Mark) (said : List ℕ) (a b : Line) (step : Step) → Between told (drop (length done) told.pages) past done said
     → drop (length done) told.pages ≡ page ∷ left → SendingFor s x past [] → s ≡ record { ear = e; content = content page; acks = 0; naks = 0 } → SpokeThen a b (block_at s.content s.acks) (On (Sending s)) Granted step
     → Moves told x said a b done step
 page_begins told e s page left done x past said a b step h l k held w =
@@ -210,8 +210,8 @@ page_begins told e s page left done x past said a b step h l k held w =
     }) w
 
 -- good-bye after the last page
-pub leaving_begins : (told : Told) (e : Ear) (done : List Outcome) (x : List ℕ) (past : List Mark) (said : List ℕ) (a b : Line) (step : Step) → Between told (drop (length done) told.pages) past done said
-    → drop (length done) told.pages ≡ [] → StandsFor e x past → SpokeThen a b good_bye (On (Leaving e)) Granted step → Moves told x said a b done step
+pub leaving_begins : (told : FileContent) (e : MarkReader) (done : List Outcome) (x : List ℕ) (past : List Mark) (said : List ℕ) (a b : Line) (step : Step) → Between told (drop (length done) told.pages) past done said
+    → drop (length done) told.pages ≡ [] → ReaderStandsFor e x past → SpokeThen a b good_bye (On (Leaving e)) Granted step → Moves told x said a b done step
 leaving_begins told e done x past said a b step h l k w =
     moved told (Leaving e) done x past said good_bye a b step (record {
       past = past;
@@ -229,7 +229,7 @@ no_end_further : (further : Option Mark) → further ≢ Some End → AllByRecur
 no_end_further None h = tt
 no_end_further (Some m) h = ((λ e. h (ap Some e)), tt)
 
-pub leave_waits : (told : Told) (e next : Ear) (done : List Outcome) (x y : List ℕ) (marks : List Mark) (said : List ℕ) (further : Option Mark) (a : Line) → LeavesAt told e done x marks said
+pub leave_waits : (told : FileContent) (e next : MarkReader) (done : List Outcome) (x y : List ℕ) (marks : List Mark) (said : List ℕ) (further : Option Mark) (a : Line) → LeavesAt told e done x marks said
     → LeavesOn y marks further (WaitOut next) → Moves told y said a a done (On (Leaving next))
 leave_waits told e next done x y marks said further a h k =
     waits told (Leaving next) done y (marks ++ option_to_list further) said a (record {
@@ -243,7 +243,7 @@ leave_waits told e next done x y marks said further a h k =
       said_is = h.said_is;
     })
 
-pub leave_gone : (told : Told) (e : Ear) (done : List Outcome) (x y : List ℕ) (marks : List Mark) (said : List ℕ) (further : Option Mark) (a : Line) → LeavesAt told e done x marks said
+pub leave_gone : (told : FileContent) (e : MarkReader) (done : List Outcome) (x y : List ℕ) (marks : List Mark) (said : List ℕ) (further : Option Mark) (a : Line) → LeavesAt told e done x marks said
     → LeavesOn y marks further Gone → Moves told y said a a done (Ends (Over Granted))
 leave_gone told e done x y marks said further a h k =
     let now = marks ++ option_to_list further in

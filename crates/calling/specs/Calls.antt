@@ -3,7 +3,7 @@ use Rattle.std.specs.Prelude.{◌≡◌, ◌≢◌, ◌⊎◌, ℕ, ◌+◌, ◌
 use Rattle.tap_entry.specs.declared.outcomes.Outcome.{Outcome}
 use Rattle.tap_entry.specs.declared.outcomes.Outcome.TheVariants.{NoLogon}
 use Rattle.tap_entry.specs.Client.{all_are}
-use Rattle.tap_entry.specs.PagesFile.{Told}
+use Rattle.tap_entry.specs.PagesFile.{FileContent}
 use Rattle.wires.specs.Causes.{Rose}
 use Rattle.wires.specs.Line.{IsBlank, KeepsConnections, KeepsLineAndHang, Line}
 use Rattle.wires.specs.Written.{Written}
@@ -47,7 +47,7 @@ abbrev pub HungUp : Line → Line → Ending → Ending → Type 0
 HungUp old new spoke ending = ((ending ≡ spoke) × (new.hang ≡ old.hang)) ⊎ ((ending ≡ Lost (logon_of spoke)) × Rose old.hang new.hang)
 
 -- A connection was dialled to this address, a call was made over it, and it was hung up. The ending tells whether Go was heard.
-pub record HasCalled (told : Told) (address : List ℕ) (old new : Line) (outcomes : List Outcome) (ending : Ending) : Type 0 where
+pub record HasCalled (told : FileContent) (address : List ℕ) (old new : Line) (outcomes : List Outcome) (ending : Ending) : Type 0 where
   pub dialled : Line
   pub spoke : Ending
   pub opens : IsDialled address old dialled
@@ -59,13 +59,13 @@ pub record HasCalled (told : Told) (address : List ℕ) (old new : Line) (outcom
   pub well : IsTrue old.tells → IsTrue old.steady → old.opened < old.count → HasRoom told (old.connection old.opened) → (new.hang ≡ old.hang) × IsTrue new.steady × (ending ≡ Over (logon_of ending))
 
 -- No connection was dialled to this address, and every page is NoLogon.
-pub record HasNotCalled (told : Told) (address : List ℕ) (old new : Line) (outcomes : List Outcome) (ending : Ending) : Type 0 where
+pub record HasNotCalled (told : FileContent) (address : List ℕ) (old new : Line) (outcomes : List Outcome) (ending : Ending) : Type 0 where
   pub failed : IsUndialled address old new
   pub outcomes_are : outcomes ≡ all_are NoLogon told.pages
   pub ending_is : ending ≡ Lost Pending
 
 -- a call was made, or dialling failed
-abbrev pub CallsUp : Told → List ℕ → Line → Line → List Outcome → Ending → Type 0
+abbrev pub CallsUp : FileContent → List ℕ → Line → Line → List Outcome → Ending → Type 0
 CallsUp told address old new outcomes ending = HasCalled told address old new outcomes ending ⊎ HasNotCalled told address old new outcomes ending
 
 -- the status for how a call ended, and for whether every page is Sent
@@ -104,12 +104,12 @@ pub record PutFront (old new : Written ℕ) (outcomes : List Outcome) : Type 0 w
   pub unsteady : IsTrue old.tells → IsTrue old.steady → length (outcome_lines outcomes) ≤ old.room → ⊥
 
 -- The call was made and no count of the wire's faults rose. Its logon, and whether every page is Sent, are these.
-pub record WentWell (told : Told) (address : List ℕ) (old new : Line) (outcomes : List Outcome) (ending : Ending) : Type 0 where
+pub record WentWell (told : FileContent) (address : List ℕ) (old new : Line) (outcomes : List Outcome) (ending : Ending) : Type 0 where
   pub called : HasCalled told address old new outcomes ending
   pub none_rose : NoneRose old new
 
 -- What each status of sending pages says of the outcomes, the wire and the output.
-abbrev pub SendsSo : Told → List ℕ → Line → Line → Written ℕ → Written ℕ → List Outcome → Status → Type 0
+abbrev pub SendsSo : FileContent → List ℕ → Line → Line → Written ℕ → Written ℕ → List Outcome → Status → Type 0
 SendsSo told address old new out0 out1 outcomes Done = WentWell told address old new outcomes (Over Granted) × IsTrue (all_sent outcomes) × PutLines out0 out1 outcomes
 SendsSo told address old new out0 out1 outcomes LogonRefused = WentWell told address old new outcomes (Over Pending) × PutLines out0 out1 outcomes
 SendsSo told address old new out0 out1 outcomes SomeUnsent = WentWell told address old new outcomes (Over Granted) × IsFalse (all_sent outcomes) × PutLines out0 out1 outcomes
@@ -119,7 +119,7 @@ SendsSo told address old new out0 out1 outcomes other = ⊥
 
 -- Pages were sent to this address: these became their outcomes. Over a steady wire with a connection left that has room for what is due, no count of
 -- faults rose, the wire is steady, and the status isn't WireFault. Over a steady output with room for the lines none rose, and the status isn't OutFault.
-pub record HasSent (told : Told) (address : List ℕ) (old new : Line) (out0 out1 : Written ℕ) (status : Status) : Type 0 where
+pub record HasSent (told : FileContent) (address : List ℕ) (old new : Line) (out0 out1 : Written ℕ) (status : Status) : Type 0 where
   pub outcomes : List Outcome
   pub sends : SendsSo told address old new out0 out1 outcomes status
   pub wire_well : IsTrue old.tells → IsTrue old.steady → old.opened < old.count → HasRoom told (old.connection old.opened) → NoneRose old new × IsTrue new.steady × (status ≢ WireFault)

@@ -6,7 +6,7 @@ use Rattle.tap_entry.specs.declared.hearing.Mark.{Mark}
 use Rattle.tap_entry.specs.declared.outcomes.Outcome.{Outcome}
 use Rattle.tap_entry.specs.Client.{Client}
 use Rattle.tap_entry.specs.Marks.{AreHeard}
-use Rattle.tap_entry.specs.PagesFile.{Told}
+use Rattle.tap_entry.specs.PagesFile.{FileContent}
 use Rattle.wires.specs.Causes.{Rose}
 use Rattle.wires.specs.Held.{Connection}
 use Rattle.wires.specs.Line.{Line}
@@ -20,19 +20,19 @@ use Rattle.wires.specs.Fronts.{IsFront}
 use Rattle.endings.specs.Talk.{Calm, Talked, here}
 
 -- The bytes are within those that are due: they have at most 1,000,000 characters, and the marks of no shorter front end the call.
-pub record IsWithinDue (told : Told) (bytes : List ℕ) : Type 0 where
+pub record IsWithinDue (told : FileContent) (bytes : List ℕ) : Type 0 where
   pub most : length bytes ≤ 1000000
   pub early : (front : List ℕ) (marks : List Mark) → IsFront front bytes → length front < length bytes → AreHeard front marks → EndsCall told marks → ⊥
 
 -- For these bytes the definition of the client says this.
-pub record IsSaidFor (told : Told) (bytes said : List ℕ) : Type 0 where
+pub record IsSaidFor (told : FileContent) (bytes said : List ℕ) : Type 0 where
   pub marks : List Mark
   pub outcomes : List Outcome
   pub marks_are : AreHeard bytes marks
   pub client : Client told.password told.pages marks outcomes said
 
 -- At a turn all that was due had been said for all that was heard before it, and that didn't end the call.
-pub record IsTurnOf (told : Told) (c : Connection) (heard said : List ℕ) (turn : ℕ × ℕ) : Type 0 where
+pub record IsTurnOf (told : FileContent) (c : Connection) (heard said : List ℕ) (turn : ℕ × ℕ) : Type 0 where
   pub before : List ℕ
   pub spoken : List ℕ
   pub due : IsSaidFor told before spoken
@@ -43,20 +43,20 @@ pub record IsTurnOf (told : Told) (c : Connection) (heard said : List ℕ) (turn
   pub turn_is : turn ≡ (c.heard + length before, length c.said + length spoken)
 
 -- why a call stopped
-pub data Stop : Type 0 where
+pub data CallStop : Type 0 where
   -- nothing was left to be heard
-  silent : Stop
+  silent : CallStop
   -- a hear failed
-  deaf : Stop
+  hear_failed : CallStop
   -- the marks ended the call
-  through : Stop
+  through : CallStop
   -- the 1,000,000th character was heard
-  long : Stop
+  long : CallStop
   -- saying a piece failed
-  mute : Stop
+  say_failed : CallStop
 
 -- All that was heard was fed, and nothing was left.
-pub record IsSilent (old new : Line) (heard fed due said : List ℕ) (ending : Ending) : Type 0 where
+pub record CallInputEnded (old new : Line) (heard fed due said : List ℕ) (ending : Ending) : Type 0 where
   pub all : fed ≡ heard
   pub nothing_left : IsTrue old.tells → IsTrue old.is_open → (here old).rest ≡ heard
   pub said_is : said ≡ due
@@ -65,7 +65,7 @@ pub record IsSilent (old new : Line) (heard fed due said : List ℕ) (ending : E
   pub ending_is : ending ≡ Over (logon_of ending)
 
 -- A hear failed. All that was heard was fed.
-pub record IsDeaf (old new : Line) (heard fed due said : List ℕ) (ending : Ending) : Type 0 where
+pub record CallHearFailed (old new : Line) (heard fed due said : List ℕ) (ending : Ending) : Type 0 where
   pub all : fed ≡ heard
   pub said_is : said ≡ due
   pub hear : Rose old.hear new.hear
@@ -81,7 +81,7 @@ pub record IsThrough (old new : Line) (due said : List ℕ) (ending : Ending) (w
   pub ending_is : ending ≡ Over (logon_of ending)
 
 -- Saying the last piece failed: the first CR, or what the last byte that was fed brought.
-pub record IsMute (told : Told) (old new : Line) (fed due said : List ℕ) (ending : Ending) : Type 0 where
+pub record CallSayFailed (told : FileContent) (old new : Line) (fed due said : List ℕ) (ending : Ending) : Type 0 where
   pub before : List ℕ
   pub piece : List ℕ
   pub n : ℕ
@@ -94,19 +94,19 @@ pub record IsMute (told : Told) (old new : Line) (fed due said : List ℕ) (endi
   pub ending_is : ending ≡ Lost (logon_of ending)
 
 -- what holds by why the call stopped
-abbrev pub Stops : Told → Line → Line → List ℕ → List ℕ → List Mark → List ℕ → List ℕ → Ending → Stop → Type 0
-Stops told old new heard fed marks due said ending silent = IsSilent old new heard fed due said ending
-Stops told old new heard fed marks due said ending deaf = IsDeaf old new heard fed due said ending
-Stops told old new heard fed marks due said ending through = IsThrough old new due said ending (EndsCall told marks)
-Stops told old new heard fed marks due said ending long = IsThrough old new due said ending (length fed ≡ 1000000)
-Stops told old new heard fed marks due said ending mute = IsMute told old new fed due said ending
+abbrev pub CallStops : FileContent → Line → Line → List ℕ → List ℕ → List Mark → List ℕ → List ℕ → Ending → CallStop → Type 0
+CallStops told old new heard fed marks due said ending silent = CallInputEnded old new heard fed due said ending
+CallStops told old new heard fed marks due said ending hear_failed = CallHearFailed old new heard fed due said ending
+CallStops told old new heard fed marks due said ending through = IsThrough old new due said ending (EndsCall told marks)
+CallStops told old new heard fed marks due said ending long = IsThrough old new due said ending (length fed ≡ 1000000)
+CallStops told old new heard fed marks due said ending say_failed = CallSayFailed told old new fed due said ending
 
 -- The connection has room for what is said for each front of what is due.
-abbrev pub HasRoom : Told → Connection → Type 0
+abbrev pub HasRoom : FileContent → Connection → Type 0
 HasRoom told c = (front said : List ℕ) → IsFront front c.rest → IsWithinDue told front → IsSaidFor told front said → length said ≤ c.room
 
 -- No hear and no say failed, the wire is steady, and the call wasn't lost.
-pub record IsWell (old new : Line) (ending : Ending) : Type 0 where
+pub record CallIsWell (old new : Line) (ending : Ending) : Type 0 where
   pub hear : new.hear ≡ old.hear
   pub say : new.say ≡ old.say
   pub steady : IsTrue new.steady
@@ -114,14 +114,14 @@ pub record IsWell (old new : Line) (ending : Ending) : Type 0 where
 
 -- A call came to its end: what was heard, the front of it that was due and its marks, what the definition of the client says for these,
 -- what was said, the turns, and why it stopped. The outcomes are those of the marks.
-pub record Came (told : Told) (old new : Line) (outcomes : List Outcome) (ending : Ending) : Type 0 where
+pub record Came (told : FileContent) (old new : Line) (outcomes : List Outcome) (ending : Ending) : Type 0 where
   pub heard : List ℕ
   pub fed : List ℕ
   pub marks : List Mark
   pub due : List ℕ
   pub said : List ℕ
   pub turns : List (ℕ × ℕ)
-  pub stop : Stop
+  pub stop : CallStop
   pub fed_is : IsFront fed heard
   pub marks_are : AreHeard fed marks
   pub client : Client told.password told.pages marks outcomes due
@@ -129,17 +129,17 @@ pub record Came (told : Told) (old new : Line) (outcomes : List Outcome) (ending
   pub within : IsWithinDue told fed
   pub line : Talked old new heard said turns
   pub turns_are : AllByRecursion (IsTurnOf told (here old) heard said) turns
-  pub stops : Stops told old new heard fed marks due said ending stop
-  pub well : IsTrue old.tells → IsTrue old.is_open → IsTrue old.steady → HasRoom told (here old) → IsWell old new ending
+  pub stops : CallStops told old new heard fed marks due said ending stop
+  pub well : IsTrue old.tells → IsTrue old.is_open → IsTrue old.steady → HasRoom told (here old) → CallIsWell old new ending
 
 -- A call came to its end, and the connection is still open.
-pub record Held (told : Told) (old new : Line) (outcomes : List Outcome) (ending : Ending) : Type 0 where
+pub record CallStaysOpen (told : FileContent) (old new : Line) (outcomes : List Outcome) (ending : Ending) : Type 0 where
   pub came : Came told old new outcomes ending
   pub open_stays : new.is_open ≡ old.is_open
   pub hang : new.hang ≡ old.hang
 
 -- A call is under way: of what was heard, these bytes are still to be fed, and for the others all that is due was said.
-pub record UnderWay (told : Told) (old now : Line) (stage : Stage) (left : ℕ) (done : List Outcome) (heard ahead : List ℕ) : Type 0 where
+pub record CallUnderWay (told : FileContent) (old now : Line) (stage : Stage) (left : ℕ) (done : List Outcome) (heard ahead : List ℕ) : Type 0 where
   pub fed : List ℕ
   pub marks : List Mark
   pub said : List ℕ
@@ -155,6 +155,6 @@ pub record UnderWay (told : Told) (old now : Line) (stage : Stage) (left : ℕ) 
   pub hang : now.hang ≡ old.hang
 
 -- it goes on, or it came to its end
-abbrev pub GoesOnSo : Told → Line → Line → ℕ → List Outcome → List ℕ → List ℕ → Step → Type 0
-GoesOnSo told old now left done heard ahead (On stage) = UnderWay told old now stage left done heard ahead
-GoesOnSo told old now left done heard ahead (Ends ending) = Held told old now (outcomes_of told (logon_of ending) done) ending
+abbrev pub GoesOnSo : FileContent → Line → Line → ℕ → List Outcome → List ℕ → List ℕ → Step → Type 0
+GoesOnSo told old now left done heard ahead (On stage) = CallUnderWay told old now stage left done heard ahead
+GoesOnSo told old now left done heard ahead (Ends ending) = CallStaysOpen told old now (outcomes_of told (logon_of ending) done) ending

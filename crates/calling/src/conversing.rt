@@ -7,12 +7,13 @@
 //! isn't fed, so the loop of `hold` never comes to its end.
 
 ghost use Rattle.std.specs.Prelude.{◌≡◌, ℕ, ◌+◌, ◌≤◌, IsTrue, List, [], ◌∷◌, ◌++◌, length};
-ghost use Rattle.calling.specs.Conversations.{Came, GoesOnSo, Held, UnderWay};
+ghost use Rattle.calling.specs.Conversations.{Came, GoesOnSo, CallStaysOpen, CallUnderWay};
 ghost use Rattle.calling.specs.Progress.{logon_of, logon_of_stage, outcomes_of};
 ghost use Rattle.tap_entry.specs.PagesFile.{most_pages};
 ghost use Rattle.wires.specs.Line.{Line};
 
 use crate::stages::{Ending, Logon, Outcomes, Stage, Step, say, take};
+use entry_line::characters::{CR, LAST_CHARACTER};
 use tap_entry::{Calling, Pages};
 use wires::Failed;
 use wires::wire::Wire;
@@ -21,10 +22,10 @@ use wires::wire::Wire;
 const HEARD_AT_ONCE: usize = 4096;
 
 /// So many characters are fed at most. The next one ends the call.
-const MOST_FED: u32 = 999_999;
+const MOST_FED: u32 = LAST_CHARACTER - 1;
 
 /// The carriage return that the client says at first.
-const FIRST: [u8; 1] = [0x0D];
+const FIRST: [u8; 1] = [CR];
 
 impl Stage {
     /// Whether the client was logged on.
@@ -42,7 +43,7 @@ impl Stage {
 /// Sends the pages over the open connection. The outcomes of the pages that were decided are appended to the list, which is empty at
 /// first.
 pub(crate) fn converse<W: Wire>(pages: &Pages, done: &mut Outcomes, wire: &mut W) -> Ending
-    ensures { length pages.now.pages ≤ most_pages → done.old.items ≡ [] → Held pages.now (W.state wire.old) (W.state wire.new) (outcomes_of pages.now (logon_of result) done.new.items) result }
+    ensures { length pages.now.pages ≤ most_pages → done.old.items ≡ [] → CallStaysOpen pages.now (W.state wire.old) (W.state wire.new) (outcomes_of pages.now (logon_of result) done.new.items) result }
 {
     let calling = Calling::new(pages.password());
     if let Err(Failed) = say(&FIRST, wire) {
@@ -53,8 +54,8 @@ pub(crate) fn converse<W: Wire>(pages: &Pages, done: &mut Outcomes, wire: &mut W
 
 /// Hears and answers, until the call ends.
 fn hold<W: Wire>(stage: Stage, pages: &Pages, done: &mut Outcomes, wire: &mut W) -> Ending
-    ensures { (first : Line) → UnderWay pages.now first (W.state wire.old) stage MOST_FED done.old.items [] []
-        → Held pages.now first (W.state wire.new) (outcomes_of pages.now (logon_of result) done.new.items) result }
+    ensures { (first : Line) → CallUnderWay pages.now first (W.state wire.old) stage MOST_FED done.old.items [] []
+        → CallStaysOpen pages.now first (W.state wire.new) (outcomes_of pages.now (logon_of result) done.new.items) result }
 {
     let mut now = stage;
     let mut left = MOST_FED;
@@ -81,7 +82,7 @@ fn feed_all<W: Wire>(
     done: &mut Outcomes,
     wire: &mut W,
 ) -> Step
-    ensures { (first : Line) (heard : List ℕ) → UnderWay pages.now first (W.state wire.old) stage left.old done.old.items heard bytes.now
+    ensures { (first : Line) (heard : List ℕ) → CallUnderWay pages.now first (W.state wire.old) stage left.old done.old.items heard bytes.now
         → GoesOnSo pages.now first (W.state wire.new) left.new done.new.items heard [] result }
 {
     let mut now = stage;
@@ -103,7 +104,7 @@ fn feed<W: Wire>(
     done: &mut Outcomes,
     wire: &mut W,
 ) -> Step
-    ensures { (first : Line) (heard ahead : List ℕ) → UnderWay pages.now first (W.state wire.old) stage left.old done.old.items heard (byte ∷ ahead)
+    ensures { (first : Line) (heard ahead : List ℕ) → CallUnderWay pages.now first (W.state wire.old) stage left.old done.old.items heard (byte ∷ ahead)
         → GoesOnSo pages.now first (W.state wire.new) left.new done.new.items heard ahead result }
 {
     if *left == 0 {

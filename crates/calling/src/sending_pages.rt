@@ -8,7 +8,7 @@
 
 ghost use Rattle.std.specs.Prelude.{◌≡◌, ◌≤◌, [], length};
 ghost use Rattle.calling.specs.Calls.{CallsUp, HasSent, status_of};
-ghost use Rattle.calling.specs.Conversations.{Held};
+ghost use Rattle.calling.specs.Conversations.{CallStaysOpen};
 ghost use Rattle.calling.specs.OutcomeLines.{all_sent};
 ghost use Rattle.calling.specs.Progress.{logon_of, unfinished};
 ghost use Rattle.tap_entry.specs.PagesFile.{most_pages};
@@ -76,7 +76,7 @@ fn call<W: Wire>(wire: &mut W, address: &str, pages: &Pages, outcomes: &mut Outc
 
 /// Sends the pages over the open connection. The outcomes of all pages are appended to the list, which is empty at first.
 fn talk<W: Wire>(wire: &mut W, pages: &Pages, outcomes: &mut Outcomes) -> Ending
-    ensures held { outcomes.old.items ≡ [] → Held pages.now (W.state wire.old) (W.state wire.new) outcomes.new.items result }
+    ensures held { outcomes.old.items ≡ [] → CallStaysOpen pages.now (W.state wire.old) (W.state wire.new) outcomes.new.items result }
     ensures few { length pages.now.pages ≤ most_pages }
 {
     let ending = converse(pages, outcomes, wire);

@@ -6,13 +6,15 @@
 ghost use Rattle.std.specs.Prelude.{◌≡◌, ◌≢◌, ℕ, ◌+◌, ◌≤◌, List, [], ◌∷◌, ◌++◌, length, drop};
 ghost use Rattle.arrayvec.specs.ArrayVec.{array_vec_len};
 ghost use Rattle.calling.specs.Progress.{At, Between, CallsAt, LeavesAt, Moves, SendsAt, SpokeThen, logon_at};
-ghost use Rattle.tap_block.specs.Chars.{char_of};
+ghost use Rattle.entry_line.specs.Chars.{char_of};
 ghost use Rattle.tap_entry.specs.Client.{block_at, logon_line};
-ghost use Rattle.tap_entry.specs.Ears.{StandsFor};
+ghost use Rattle.tap_entry.specs.MarkReaders.{ReaderStandsFor};
 ghost use Rattle.tap_entry.specs.declared.hearing.Mark.{Mark};
 ghost use Rattle.wires.specs.Below.{Speaks};
 
 use arrayvec::ArrayVec;
+use entry_line::characters::CR;
+use tap_block::control::EOT;
 use tap_entry::file::MOST_PAGES;
 use tap_entry::logon::LONGEST_LOGON;
 use tap_entry::{
@@ -23,7 +25,7 @@ use wires::sink::Sink;
 use wires::wire::{Saying, Wire};
 
 /// EOT CR, which the client says before it leaves.
-const GOOD_BYE: [u8; 2] = [0x04, 0x0D];
+const GOOD_BYE: [u8; 2] = [EOT, CR];
 
 /// The outcomes of the pages that are decided, in the order of the pages.
 pub(crate) type Outcomes = ArrayVec<Outcome, MOST_PAGES>;
@@ -169,7 +171,7 @@ fn say_logon<W: Wire>(client: Calling, wire: &mut W) -> Step
 
 /// Begins the next page, or leaves where none is left.
 fn begin<W: Wire>(client: LoggedOn, pages: &Pages, done: &Outcomes, wire: &mut W) -> Step
-    ensures { (x : List ℕ) (past : List Mark) (said : List ℕ) → StandsFor client x past → Between pages.now (drop (length done.now.items) pages.now.pages) past done.now.items said
+    ensures { (x : List ℕ) (past : List Mark) (said : List ℕ) → ReaderStandsFor client x past → Between pages.now (drop (length done.now.items) pages.now.pages) past done.now.items said
         → Moves pages.now x said (W.state wire.old) (W.state wire.new) done.now.items result }
 {
     let k = done.len();

@@ -12,3 +12,7 @@ address_of capcode function = word_of (high_of capcode * 2 ^ 2 + number_of funct
 -- The codeword of 1 and the 20 bits of the group.
 unfoldable pub message_of : ℕ → ℕ
 message_of group = word_of (2 ^ 20 + group)
+
+-- 32 bits 1010..10 of a preamble
+abbrev pub filler : ℕ
+filler = 0xAAAAAAAA

@@ -5,6 +5,7 @@
 //! so no word of a page is taken for either.
 //!
 //! - `addresses`: capcodes, which of them are usable, their frames and high bits.
+//! - `batches`: how many slots a batch and a frame have, and the number of the capcode whose high bits stand in a slot.
 //! - `functions`: the four functions, by number and by letter.
 //! - `kinds`: what a word says, once its wrong bits are repaired.
 //! - `words`: the idle word, the sync word, address words, message words.
@@ -13,12 +14,14 @@
 #![tactic(auto)]
 
 pub mod addresses;
+pub mod batches;
 pub mod functions;
 pub mod kinds;
 pub mod laws;
 pub mod words;
 
 pub use addresses::Capcode;
+pub use batches::{BATCH_WORDS, FRAME_SLOTS, SLOTS, number_in_slot};
 pub use functions::Function;
 pub use kinds::{WordKind, kind};
 pub use words::{IDLE, SYNC, address_word, message_word};

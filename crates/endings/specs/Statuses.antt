@@ -3,34 +3,34 @@ use Rattle.std.specs.Prelude.{ℕ, List, [], codes}
 use Rattle.endings.specs.declared.statuses.Status.{Status}
 use Rattle.endings.specs.declared.statuses.Status.TheVariants.{Done, Usage, Settings, FileFault, WireFault, OutFault, InputFault, NotBlock, BadSum, BadText, TooLong, LogonRefused, SomeUnsent, Memory, BadPages}
 
-abbrev pub code_of : Status → ℕ
-code_of Done = 0
-code_of Usage = 2
-code_of Settings = 3
-code_of FileFault = 4
-code_of WireFault = 5
-code_of OutFault = 6
-code_of InputFault = 7
-code_of NotBlock = 8
-code_of BadSum = 9
-code_of BadText = 10
-code_of TooLong = 11
-code_of LogonRefused = 12
-code_of SomeUnsent = 13
-code_of Memory = 14
-code_of BadPages = 15
+abbrev pub exit_code : Status → ℕ
+exit_code Done = 0
+exit_code Usage = 2
+exit_code Settings = 3
+exit_code FileFault = 4
+exit_code WireFault = 5
+exit_code OutFault = 6
+exit_code InputFault = 7
+exit_code NotBlock = 8
+exit_code BadSum = 9
+exit_code BadText = 10
+exit_code TooLong = 11
+exit_code LogonRefused = 12
+exit_code SomeUnsent = 13
+exit_code Memory = 14
+exit_code BadPages = 15
 
 -- the line about a status. Done and OutFault have none, and those of Settings and BadPages say what is refused.
-abbrev pub line_of : Status → List ℕ
-line_of Usage = codes "pocsag: usage\n"
-line_of FileFault = codes "pocsag: file\n"
-line_of WireFault = codes "pocsag: line\n"
-line_of InputFault = codes "pocsag: input\n"
-line_of NotBlock = codes "pocsag: not a block\n"
-line_of BadSum = codes "pocsag: wrong sum\n"
-line_of BadText = codes "pocsag: text\n"
-line_of TooLong = codes "pocsag: air too long\n"
-line_of LogonRefused = codes "pocsag: logon refused\n"
-line_of SomeUnsent = codes "pocsag: some pages unsent\n"
-line_of Memory = codes "pocsag: memory\n"
-line_of other = []
+abbrev pub status_line : Status → List ℕ
+status_line Usage = codes "pocsag: usage\n"
+status_line FileFault = codes "pocsag: file\n"
+status_line WireFault = codes "pocsag: line\n"
+status_line InputFault = codes "pocsag: input\n"
+status_line NotBlock = codes "pocsag: not a block\n"
+status_line BadSum = codes "pocsag: wrong sum\n"
+status_line BadText = codes "pocsag: text\n"
+status_line TooLong = codes "pocsag: air too long\n"
+status_line LogonRefused = codes "pocsag: logon refused\n"
+status_line SomeUnsent = codes "pocsag: some pages unsent\n"
+status_line Memory = codes "pocsag: memory\n"
+status_line other = []

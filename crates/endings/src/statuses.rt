@@ -38,11 +38,11 @@ pub enum Status {
 }
 
 impl Status {
-    ghost use Rattle.endings.specs.Statuses.{code_of, line_of};
+    ghost use Rattle.endings.specs.Statuses.{exit_code, status_line};
 
     /// The exit code, from 0 to 15.
     pub fn code(self) -> u8
-        ensures { result ≡ code_of self }
+        ensures { result ≡ exit_code self }
     {
         match self {
             Status::Done => 0,
@@ -65,7 +65,7 @@ impl Status {
 
     /// The line about the status. Done and OutFault have none. Settings and BadPages have none here: theirs say what is refused.
     pub fn line(self) -> &'static [u8]
-        ensures { result.now ≡ line_of self }
+        ensures { result.now ≡ status_line self }
     {
         match self {
             Status::Done | Status::OutFault | Status::Settings | Status::BadPages => b"",

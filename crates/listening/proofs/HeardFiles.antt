@@ -10,7 +10,7 @@ use Rattle.wires.specs.Written.{Written}
 use Rattle.endings.specs.declared.statuses.Status.{Status}
 use Rattle.endings.specs.declared.statuses.Status.TheVariants.{BadPages, BadSum, BadText, Done, FileFault, InputFault, LogonRefused, Memory, NotBlock, OutFault, Settings, SomeUnsent, TooLong, Usage, WireFault}
 use Rattle.listening.specs.HeardFile.{HearsFile, file_bits}
-use Rattle.listening.specs.Listening.{Listens}
+use Rattle.listening.specs.Listening.{HasListened}
 use Rattle.listening.proofs.WellListened.{listened_well}
 
 -- the bits, holding these of others
@@ -21,8 +21,8 @@ took_holding : (held : List Held) (a b : Left Bool) (bits : List Bool) → Took 
 took_holding held a b bits h = record { tells = h.tells; left = h.left; there = h.there; steady = h.steady; faults = h.faults; lent = refl }
 
 -- what was listened to doesn't depend on what the bits hold
-listens_holding : (printed : List Bool → List ℕ) (held : List Held) (a b : Left Bool) (o0 o : Written ℕ) (status : Status) → Listens printed a b o0 o status
-    → Listens printed (holding held a) (holding held b) o0 o status
+listens_holding : (printed : List Bool → List ℕ) (held : List Held) (a b : Left Bool) (o0 o : Written ℕ) (status : Status) → HasListened printed a b o0 o status
+    → HasListened printed (holding held a) (holding held b) o0 o status
 listens_holding printed held a b o0 o Done h = record { bits = h.bits; took = took_holding held a b h.bits h.took; there = h.there; whole = h.whole; few = h.few; wrote = h.wrote }
 listens_holding printed held a b o0 o TooLong h = record {
   bits = h.bits;
@@ -54,7 +54,7 @@ listens_holding printed held a b o0 o Memory h = h
 listens_holding printed held a b o0 o BadPages h = h
 
 -- what the bits told of whether they tell, and what they hold of others, is as it was
-kept : (printed : List Bool → List ℕ) (a b : Left Bool) (o0 o : Written ℕ) (status : Status) → Listens printed a b o0 o status → (b.tells ≡ a.tells) × (b.lent ≡ a.lent)
+kept : (printed : List Bool → List ℕ) (a b : Left Bool) (o0 o : Written ℕ) (status : Status) → HasListened printed a b o0 o status → (b.tells ≡ a.tells) × (b.lent ≡ a.lent)
 kept printed a b o0 o Done h = (h.took.tells, h.took.lent)
 kept printed a b o0 o TooLong h = (h.took.tells, h.took.lent)
 kept printed a b o0 o FileFault h = (h.failed.tells, h.failed.lent)
@@ -83,13 +83,13 @@ fresh_bits n name same ready from old now r f s e = rw (r, f, s, e) refl
 
 pub hears_file : (printed : List Bool → List ℕ) (m n : GName) (name same then : List ℕ) (ready later : List Bool) (from at : ℕ) (old now new : Files) (o0 o : Written ℕ) (status : Status)
     → ready ≡ [] → from ≡ 0 → same ≡ name → now ≡ old
-    → Listens printed (shelf_bits n same ready from now) (shelf_bits m then later at new) o0 o status
+    → HasListened printed (shelf_bits n same ready from now) (shelf_bits m then later at new) o0 o status
     → HearsFile printed name old new o0 o status
 hears_file printed m n name same then ready later from at old now new o0 o status r f s e h =
     let k = kept printed (shelf_bits n same ready from now) (shelf_bits m then later at new) o0 o status h in
     let rest = holding old.lent (shelf_bits m then later at new) in
-    let l : Listens printed (file_bits name old) rest o0 o status =
-    subst (λ (b : Left Bool). Listens printed b rest o0 o status) (fresh_bits n name same ready from old now r f s e) (listens_holding printed old.lent _ _ o0 o status h) in
+    let l : HasListened printed (file_bits name old) rest o0 o status =
+    subst (λ (b : Left Bool). HasListened printed b rest o0 o status) (fresh_bits n name same ready from old now r f s e) (listens_holding printed old.lent _ _ o0 o status h) in
     record {
       rest = rest;
       listens = l;

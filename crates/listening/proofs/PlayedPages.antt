@@ -11,7 +11,7 @@ use Rattle.page_text.specs.Texts.{text_of}
 use Rattle.receiver.specs.Heard.{HeardPage, heard, with_text}
 use Rattle.receiver.specs.Receivers.{has_in, numbers_with}
 use Rattle.receiver.specs.Shown.{shown, shown_page}
-use Rattle.receiver.specs.Listeners.{Listener, answer_of, is_one_of, ready_pages}
+use Rattle.receiver.specs.Listeners.{Listener, ready_answer, is_one_of, ready_pages}
 use Rattle.receiver.specs.Stretches.{first_stretches, stretches}
 use Rattle.receiver.specs.declared.ready.Ready.{Ready}
 use Rattle.wires.specs.Written.{Written, Puts}
@@ -35,7 +35,7 @@ lines_heard-more listens has bits next more e =
 
 -- a piece that completes no page
 pub prints_no_page : {E : Type 0} (group : Listener) (bits next : List Bool) (ready : Option HeardPage) (answer : Option Ready) (o : Written ℕ)
-    → answer ≡ None → answer ≡ answer_of ready
+    → answer ≡ None → answer ≡ ready_answer ready
     → heard (is_one_of group.capcodes) (bits ++ next) ≡ heard (is_one_of group.capcodes) bits ++ ready_pages ready → Prints {E = E} (group_lines group) bits next o o (Ok (tt {0}))
 prints_no_page {E} group bits next None answer o none is e = record {
   piece = [];
@@ -58,7 +58,7 @@ lines-for page (number ∷ numbers) = ap (λ (rest : List ℕ). shown_line (numb
 
 -- a piece that completes a page
 pub prints_page : {T E : Type 0} (group : Listener) (bits next : List Bool) (ready : Option HeardPage) (answer : Option Ready) (page : Ready) (n : ℕ) (into : List ℕ) (o1 o2 : Written ℕ)
-    (r : Result T E) → answer ≡ Some page → answer ≡ answer_of ready
+    (r : Result T E) → answer ≡ Some page → answer ≡ ready_answer ready
     → heard (is_one_of group.capcodes) (bits ++ next) ≡ heard (is_one_of group.capcodes) bits ++ ready_pages ready
     → IfSome ready (λ p. take n into ≡ text_of p.function p.groups)
     → Puts o1 o2 (lines_for page.capcode page.function (take n into) (numbers_with (has_in group.holders) page.capcode)) r

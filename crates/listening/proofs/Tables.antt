@@ -8,14 +8,14 @@ use Rattle.codeword.specs.Functions.{letter_of}
 use Rattle.page_text.specs.Line.{decimal_digits}
 use Rattle.wires.specs.Written.{Written, Puts}
 use Rattle.wires.proofs.Written.{Puts-nothing}
-use Rattle.receiver.specs.Heard.{capcode_at}
+use Rattle.codeword.specs.Capcodes.{capcode_at}
 use Rattle.receiver.specs.Stretches.{first_stretches, stretches}
-use Rattle.receiver.specs.Slots.{Batch, Entry, Slot, entries}
+use Rattle.receiver.specs.Slots.{Batch, TableEntry, Slot, entries}
 use Rattle.receiver.specs.Fronts.{FrontEnd, FrontStandsFor}
 use Rattle.listening.specs.Listening.{Prints}
 use Rattle.listening.specs.Table.{TableStandsFor, batch_line, batches_in, entry_lines, hex_digits, kind_text, slot_line, table_of}
 
-pub entry_lines-append : (n : ℕ) (es fs : List Entry) → entry_lines n (es ++ fs) ≡ entry_lines n es ++ entry_lines (n + batches_in es) fs
+pub entry_lines-append : (n : ℕ) (es fs : List TableEntry) → entry_lines n (es ++ fs) ≡ entry_lines n es ++ entry_lines (n + batches_in es) fs
 entry_lines-append n [] fs = let none : n ≡ n + 0 = omega arith in ap (λ (m : ℕ). entry_lines m fs) none
 entry_lines-append n (Batch ∷ es) fs =
     let more : n + 1 + batches_in es ≡ n + suc (batches_in es) = omega arith in
@@ -25,7 +25,7 @@ entry_lines-append n (Slot place word ∷ es) fs =
     ap (λ (rest : List ℕ). slot_line place word ++ rest) (entry_lines-append n es fs)
     ∙ sym (append_assoc (slot_line place word) (entry_lines n es) (entry_lines (n + batches_in es) fs))
 
-pub batches_in-append : (es fs : List Entry) → batches_in (es ++ fs) ≡ batches_in es + batches_in fs
+pub batches_in-append : (es fs : List TableEntry) → batches_in (es ++ fs) ≡ batches_in es + batches_in fs
 batches_in-append [] fs = omega arith
 batches_in-append (Batch ∷ es) fs = omega (arith, batches_in-append es fs)
 batches_in-append (Slot place word ∷ es) fs = batches_in-append es fs
@@ -48,7 +48,7 @@ pub kind_text-message : (place : ℕ) (kind : Option WordKind) (said : WordKind)
 kind_text-message place kind said group e f = ap (kind_text place) (e ∙ ap (λ (k : WordKind). Some k) f)
 
 -- what a piece adds to the table is printed
-prints : {T E : Type 0} (bits next : List Bool) (added : List Entry) (n : ℕ) (piece : List ℕ) (o1 o2 : Written ℕ) (r : Result T E)
+prints : {T E : Type 0} (bits next : List Bool) (added : List TableEntry) (n : ℕ) (piece : List ℕ) (o1 o2 : Written ℕ) (r : Result T E)
     → n ≡ batches_in (entries bits) → entries (bits ++ next) ≡ entries bits ++ added → entry_lines n added ≡ piece → Puts o1 o2 piece r
     → Prints table_of bits next o1 o2 r
 prints bits next added n piece o1 o2 r count more is put = record {
@@ -78,7 +78,7 @@ prints_batch front n bits next count o1 o2 r h count_is more put =
     prints bits next (Batch ∷ []) n (batch_line count) o1 o2 r h.batches_are more (append-nil (batch_line (n + 1)) ∙ ap batch_line (sym count_is)) put
 
 -- what the table stands for then
-pub stands_on : (front after : FrontEnd) (n : ℕ) (bits next : List Bool) (added : List Entry) (count : ℕ) → TableStandsFor front n bits
+pub stands_on : (front after : FrontEnd) (n : ℕ) (bits next : List Bool) (added : List TableEntry) (count : ℕ) → TableStandsFor front n bits
     → FrontStandsFor after (bits ++ next) → entries (bits ++ next) ≡ entries bits ++ added → count ≡ n + batches_in added → batches_in added ≤ length next
     → TableStandsFor after count (bits ++ next)
 stands_on front after n bits next added count h stands more count_is one = record {

@@ -6,7 +6,7 @@ use Rattle.wires.specs.Left.{Left}
 use Rattle.wires.specs.Written.{Written}
 use Rattle.endings.specs.declared.statuses.Status.{Status}
 use Rattle.endings.specs.declared.statuses.Status.TheVariants.{Done, FileFault, OutFault, TooLong}
-use Rattle.listening.specs.Listening.{ListenedToAll, ListenedTooLong, Listens, OutWell, most_bits}
+use Rattle.listening.specs.Listening.{ListenedToAll, ListenedTooLong, HasListened, OutWell, most_bits}
 use Rattle.endings.specs.Wrote.{FitFor, StaysWell, Wrote}
 use Rattle.listening.proofs.Listens.{length-front}
 
@@ -25,7 +25,7 @@ read_first printed old new out0 out h t =
     let all : old.left ≡ h.bits ++ (h.further ∷ new.left) = h.took.left t ∙ append_assoc h.bits (h.further ∷ []) new.left in
     ap (take most_bits) all ∙ (ap (λ (n : ℕ). take n (h.bits ++ (h.further ∷ new.left))) (sym h.many) ∙ take-append_seam h.bits (h.further ∷ new.left))
 
-pub listened_well : (printed : List Bool → List ℕ) (old new : Left Bool) (out0 out : Written ℕ) (status : Status) → Listens printed old new out0 out status → OutWell printed old out0 out status
+pub listened_well : (printed : List Bool → List ℕ) (old new : Left Bool) (out0 out : Written ℕ) (status : Status) → HasListened printed old new out0 out status → OutWell printed old out0 out status
 listened_well printed old new out0 out Done h = λ t fit. (
   λ e. cc,
   wrote_well out0 out (printed h.bits) (printed (take most_bits old.left)) h.wrote fit (omega (arith, ap (λ (z : List Bool). length (printed z)) (read_whole printed old new out0 out h t))),

@@ -6,7 +6,7 @@ use Rattle.wires.specs.Left.{Left}
 use Rattle.wires.specs.Written.{Written}
 use Rattle.endings.specs.declared.statuses.Status.{Status}
 use Rattle.endings.specs.declared.statuses.Status.TheVariants.{Memory}
-use Rattle.listening.specs.Listening.{Listens, OutWell}
+use Rattle.listening.specs.Listening.{HasListened, OutWell}
 
 -- the bits of a file's bytes, as they are read. Reading fails not where the shelf is steady and the name is there
 abbrev pub file_bits : List ℕ → Files → Left Bool
@@ -23,7 +23,7 @@ file_bits name shelf = record {
 -- reading the bits, and it is steady where they are. So is an output that was steady and had room for the lines of all bits.
 pub record HearsFile (printed : List Bool → List ℕ) (name : List ℕ) (old new : Files) (out0 out : Written ℕ) (status : Status) : Type 0 where
   pub rest : Left Bool
-  pub listens : Listens printed (file_bits name old) rest out0 out status
+  pub listens : HasListened printed (file_bits name old) rest out0 out status
   pub faults : new.faults ≡ rest.faults
   pub steady : IsTrue rest.steady → IsTrue new.steady
   pub tells : new.tells ≡ old.tells

@@ -71,12 +71,12 @@ pub record ListenedUnheard (printed : List Bool → List ℕ) (old new : Left Bo
   pub of_all : IsTrue old.tells → WroteFront out0 out (printed (take most_bits old.left))
 
 -- What was listened to and printed, by status. `printed` says what a list of bits gives.
-abbrev pub Listens : (List Bool → List ℕ) → Left Bool → Left Bool → Written ℕ → Written ℕ → Status → Type 0
-Listens printed old new out0 out Done = ListenedToAll printed old new out0 out
-Listens printed old new out0 out TooLong = ListenedTooLong printed old new out0 out
-Listens printed old new out0 out FileFault = ListenedToFault printed old new out0 out
-Listens printed old new out0 out OutFault = ListenedUnheard printed old new out0 out
-Listens printed old new out0 out other = ⊥
+abbrev pub HasListened : (List Bool → List ℕ) → Left Bool → Left Bool → Written ℕ → Written ℕ → Status → Type 0
+HasListened printed old new out0 out Done = ListenedToAll printed old new out0 out
+HasListened printed old new out0 out TooLong = ListenedTooLong printed old new out0 out
+HasListened printed old new out0 out FileFault = ListenedToFault printed old new out0 out
+HasListened printed old new out0 out OutFault = ListenedUnheard printed old new out0 out
+HasListened printed old new out0 out other = ⊥
 
 -- Over a steady output with room for what all bits give that are to be listened to, no write failed, and the output is steady.
 abbrev pub OutWell : (List Bool → List ℕ) → Left Bool → Written ℕ → Written ℕ → Status → Type 0

@@ -8,8 +8,8 @@ use Rattle.codeword.specs.Functions.{letter_of}
 use Rattle.codeword.specs.Kinds.{kind_of}
 use Rattle.page_text.specs.Line.{decimal_digits, hex_digit}
 use Rattle.receiver.specs.Fronts.{FrontEnd, FrontStandsFor}
-use Rattle.receiver.specs.Heard.{capcode_at}
-use Rattle.receiver.specs.Slots.{Batch, Entry, Slot, entries}
+use Rattle.codeword.specs.Capcodes.{capcode_at}
+use Rattle.receiver.specs.Slots.{Batch, TableEntry, Slot, entries}
 
 -- the k lowest hexadecimal digits of a number, the highest first, in capitals
 abbrev pub hex_digits : ℕ → ℕ → List ℕ
@@ -36,7 +36,7 @@ abbrev pub batch_line : ℕ → List ℕ
 batch_line n = codes "batch " ++ decimal n ++ codes "\n"
 
 -- the lines of entries, behind n sync words
-abbrev pub entry_lines : ℕ → List Entry → List ℕ
+abbrev pub entry_lines : ℕ → List TableEntry → List ℕ
 entry_lines n [] = []
 entry_lines n (Batch ∷ rest) = batch_line (n + 1) ++ entry_lines (n + 1) rest
 entry_lines n (Slot place word ∷ rest) = slot_line place word ++ entry_lines n rest
@@ -46,7 +46,7 @@ abbrev pub table_of : List Bool → List ℕ
 table_of bits = entry_lines 0 (entries bits)
 
 -- how many sync words are among the entries
-abbrev pub batches_in : List Entry → ℕ
+abbrev pub batches_in : List TableEntry → ℕ
 batches_in [] = 0
 batches_in (Batch ∷ rest) = suc (batches_in rest)
 batches_in (Slot place word ∷ rest) = batches_in rest

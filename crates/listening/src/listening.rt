@@ -2,7 +2,7 @@
 
 ghost use Rattle.std.specs.Prelude.{◌≡◌, ℕ, ◌+◌, ◌<◌, ◌^◌, ◌++◌, [], Bool, List, OnOk, length};
 ghost use Rattle.wires.specs.Fronts.{Grows};
-ghost use Rattle.listening.specs.Listening.{Listens, Prints, put_of};
+ghost use Rattle.listening.specs.Listening.{HasListened, Prints, put_of};
 ghost use Rattle.wires.specs.Pieces.{taken_of};
 
 use endings::statuses::Status;
@@ -66,7 +66,7 @@ pub fn listen<B: BitSource, P: Listener, O: Sink>(
     requires none { P.fed listener.old [] }
     requires silent { P.printed listener.old [] ≡ [] }
     requires grows { Grows (P.printed listener.old) }
-    ensures { Listens (P.printed listener.old) (B.state bits.old) (B.state bits.new) (O.state out.old) (O.state out.new) result }
+    ensures { HasListened (P.printed listener.old) (B.state bits.old) (B.state bits.new) (O.state out.old) (O.state out.new) result }
 {
     let mut to_come = MOST_BITS;
     while to_come > 0 {

@@ -4,7 +4,7 @@ ghost use Rattle.std.specs.Prelude.{◌≡◌, ◌≤◌, ◌++◌, [], IfOk, le
 ghost use Rattle.page_text.specs.Line.{line_of};
 ghost use Rattle.receiver.specs.Listeners.{StandsFor};
 ghost use Rattle.receiver.specs.Receivers.{has_in, numbers_with};
-ghost use Rattle.listening.specs.Listening.{Listens, OutWell};
+ghost use Rattle.listening.specs.Listening.{HasListened, OutWell};
 ghost use Rattle.listening.specs.PageLines.{group_lines, lines_for, number_text, play_lines};
 ghost use Rattle.wires.specs.Written.{Puts};
 ghost use Rattle.listening.specs.Table.{table_of};
@@ -108,7 +108,7 @@ pub fn group_of(alloc: Global, capcodes: &[Capcode]) -> Result<Group, Memory>
 /// front of these lines was put.
 pub fn play<B: BitSource, O: Sink>(bits: &mut B, group: &mut Group, out: &mut O) -> Status
     requires { StandsFor group.old [] }
-    ensures listens { Listens (group_lines group.old) (B.state bits.old) (B.state bits.new) (O.state out.old) (O.state out.new) result }
+    ensures listens { HasListened (group_lines group.old) (B.state bits.old) (B.state bits.new) (O.state out.old) (O.state out.new) result }
     ensures out_well { OutWell (group_lines group.old) (B.state bits.old) (O.state out.old) (O.state out.new) result }
 {
     listen(bits, group, out)
@@ -117,7 +117,7 @@ pub fn play<B: BitSource, O: Sink>(bits: &mut B, group: &mut Group, out: &mut O)
 /// Puts the table of what is heard in bits: a line for each sync word that was found or is good at its place, and for each slot. A
 /// word that isn't whole has no line. The answers are those of `play`.
 pub fn show<B: BitSource, O: Sink>(bits: &mut B, out: &mut O) -> Status
-    ensures listens { Listens table_of (B.state bits.old) (B.state bits.new) (O.state out.old) (O.state out.new) result }
+    ensures listens { HasListened table_of (B.state bits.old) (B.state bits.new) (O.state out.old) (O.state out.new) result }
     ensures out_well { OutWell table_of (B.state bits.old) (O.state out.old) (O.state out.new) result }
 {
     listen(bits, &mut Table::new(), out)

@@ -5,14 +5,15 @@ use Rattle.std.proofs.lemmas.List.{map-append}
 use Rattle.std.proofs.lemmas.List.Elements.{All-head, All-tail, filter-append}
 use Rattle.bits.specs.Bits.{word_bits}
 use Rattle.page_text.specs.Page.{Page, IsAcceptable}
-use Rattle.scheduler.specs.Slots.{Piece, Idle, words, in_frame, IsSchedule}
+use Rattle.scheduler.specs.Slots.{PlanPiece, Idle, words, in_frame, IsSchedule}
 use Rattle.scheduler.proofs.Pieces.{place-append}
 use Rattle.air.specs.Air.{batches, IsAir}
 use Rattle.air.specs.Near.{IsNearAir, Near}
 use Rattle.receiver.specs.Stretches.{first_stretches, stretches}
 use Rattle.receiver.specs.Heard.{with_text, stretch_pages, heard}
-use Rattle.receiver.specs.Slots.{slots_of}
-use Rattle.receiver.specs.Windows.{filler, preamble_bits}
+use Rattle.receiver.specs.Slots.{stretch_slots}
+use Rattle.codeword.specs.Words.{filler}
+use Rattle.receiver.specs.Windows.{preamble_bits}
 use Rattle.near.specs.NearAir.{AreUsable, NearAir, joined}
 use Rattle.near.proofs.NearWords.{IsNearWords, near_air-parts}
 use Rattle.near.proofs.NearStretches.{After, nothing, next, FirstStretch, first_stretch}
@@ -25,7 +26,7 @@ batches_in : (accepted : List Page) (slots : List ℕ) → IsSchedule accepted s
 batches_in accepted slots s =
     let b = s.layout.batches.0 in
     let e : length slots ≡ 16 * b = ap length s.slots_are ∙ s.layout.batches.1 in
-    let p = ap (λ (ps : List Piece). length (words ps)) s.layout.idle_last.1 in
+    let p = ap (λ (ps : List PlanPiece). length (words ps)) s.layout.idle_last.1 in
     let q = place-append s.layout.idle_last.0 (Idle ∷ []) in
     some_batches b (length slots) e (omega (arith, ap length s.slots_are, p, q))
   where
@@ -89,7 +90,7 @@ hears_first : (listens : ℕ → Bool) (f : ℕ) (kept : Page → Bool) (accepte
 hears_first listens f kept accepted lists slots all later u k h s first rest =
     ap (λ (xs : List (List ℕ)). filter kept (pages_in listens xs)) first.first
     ∙ kept_in-cons listens kept first.words later
-    ∙ ap₂ (λ (x y : List Page). x ++ y) (schedule_pages listens accepted slots (slots_of first.words) u h s first.near f kept k) rest
+    ∙ ap₂ (λ (x y : List Page). x ++ y) (schedule_pages listens accepted slots (stretch_slots first.words) u h s first.near f kept k) rest
     ∙ sym (filter-append kept accepted (joined lists))
 
 -- no page gives no bits

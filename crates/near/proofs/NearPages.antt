@@ -16,7 +16,7 @@ use Rattle.codeword.specs.declared.functions.Function.TheVariants.{Numeric, Tone
 use Rattle.codeword.specs.declared.kinds.WordKind.{WordKind}
 use Rattle.codeword.specs.declared.kinds.WordKind.TheVariants.{Address, Message}
 use Rattle.codeword.specs.declared.words.TheConstants.{IDLE}
-use Rattle.codeword.specs.Capcodes.{high_of, idle_high}
+use Rattle.codeword.specs.Capcodes.{capcode_at, high_of, idle_high, frame_at}
 use Rattle.codeword.specs.Kinds.{kind_from, kind_of}
 use Rattle.codeword.specs.Words.{address_of, message_of}
 use Rattle.codeword.proofs.Carried.{address_of-codeword, address_of-lt, message_of-codeword, message_of-lt}
@@ -27,10 +27,10 @@ use Rattle.page_text.specs.Groups.{pieces as bit_pieces, groups_of, groups}
 use Rattle.page_text.specs.Page.{Page, IsAcceptable}
 use Rattle.page_text.proofs.Back.{length-groups, text_of-groups}
 use Rattle.page_text.proofs.Groups.{number-take-lt}
-use Rattle.scheduler.specs.Slots.{Piece, Idle, Run, run, words, pages, place, frame, in_frame, IsSchedule}
+use Rattle.scheduler.specs.Slots.{PlanPiece, Idle, Run, run, words, pages_in_order, place, frame, in_frame, IsSchedule}
 use Rattle.scheduler.proofs.Pieces.{place-append}
 use Rattle.scheduler.proofs.Unique.{shift}
-use Rattle.receiver.specs.Heard.{HeardPage, with_text, frame_at, capcode_at, groups_with, groups_to_address, page_if, page_with, pages_from}
+use Rattle.receiver.specs.Heard.{HeardPage, with_text, groups_with, groups_to_address, page_if, page_with, pages_from}
 use Rattle.near.specs.NearAir.{AreUsable}
 use Rattle.near.proofs.NearWords.{AreNear}
 
@@ -40,7 +40,7 @@ abbrev said : List ℕ → List (Option WordKind)
 said groups = map (λ group. Some (Message group)) groups
 
 -- what the words of pieces say
-abbrev pub kinds_of : List Piece → List (Option WordKind)
+abbrev pub kinds_of : List PlanPiece → List (Option WordKind)
 kinds_of [] = []
 kinds_of (Idle ∷ rest) = Some (Address idle_high Numeric) ∷ kinds_of rest
 kinds_of (Run page ∷ rest) = Some (Address (high_of page.capcode) page.function) ∷ (said (groups page.function page.text) ++ kinds_of rest)
@@ -85,28 +85,28 @@ codewords-messages (g ∷ gs) h =
     All-cons IsCodeword (message_of g) (map message_of gs)
     (message_of-codeword g (All-head (λ group. group < 2 ^ 20) g gs h)) (codewords-messages gs (All-tail (λ group. group < 2 ^ 20) g gs h))
 
-kinds-words : (ps : List Piece) → All IsAcceptable (pages ps) → map kind_of (words ps) ≡ kinds_of ps
+kinds-words : (ps : List PlanPiece) → All IsAcceptable (pages_in_order ps) → map kind_of (words ps) ≡ kinds_of ps
 unfolding run
 kinds-words [] h = refl
 kinds-words (Idle ∷ rest) h = ap₂ (λ (x : Option WordKind) (xs : List (Option WordKind)). x ∷ xs) kind_of-idle (kinds-words rest h)
 kinds-words (Run page ∷ rest) h =
-    let a = All-head IsAcceptable page (pages rest) h in
-    let ih = kinds-words rest (All-tail IsAcceptable page (pages rest) h) in
+    let a = All-head IsAcceptable page (pages_in_order rest) h in
+    let ih = kinds-words rest (All-tail IsAcceptable page (pages_in_order rest) h) in
     ap₂ (λ (x : Option WordKind) (xs : List (Option WordKind)). x ∷ xs) (kind_of-address page.capcode page.function a.usable.small)
     (map-append kind_of (map message_of (groups page.function page.text)) (words rest)
     ∙ ap₂ (λ (x y : List (Option WordKind)). x ++ y) (kinds_of-messages (groups page.function page.text) (groups-lt page.function page.text)) ih)
 
-codewords-words : (ps : List Piece) → All IsAcceptable (pages ps) → All IsCodeword (words ps)
+codewords-words : (ps : List PlanPiece) → All IsAcceptable (pages_in_order ps) → All IsCodeword (words ps)
 unfolding run
 codewords-words [] h = All-nil IsCodeword
 codewords-words (Idle ∷ rest) h = All-cons IsCodeword IDLE (words rest) idle_codeword (codewords-words rest h)
 codewords-words (Run page ∷ rest) h =
-    let a = All-head IsAcceptable page (pages rest) h in
+    let a = All-head IsAcceptable page (pages_in_order rest) h in
     All-cons IsCodeword (address_of page.capcode page.function) (map message_of (groups page.function page.text) ++ words rest)
     (address_of-codeword page.capcode page.function a.usable.small)
     (All-append IsCodeword (map message_of (groups page.function page.text)) (words rest)
     (codewords-messages (groups page.function page.text) (groups-lt page.function page.text))
-    (codewords-words rest (All-tail IsAcceptable page (pages rest) h)))
+    (codewords-words rest (All-tail IsAcceptable page (pages_in_order rest) h)))
 
 -- ---- words near codewords say the same
 
@@ -161,19 +161,19 @@ messages_give_none listens start (g ∷ gs) ks =
 -- ---- pieces that are placed
 
 -- each run starts in the frame of its page
-unfoldable pub ArePlaced : ℕ → List Piece → Type 0
+unfoldable pub ArePlaced : ℕ → List PlanPiece → Type 0
 ArePlaced start [] = Unit {0}
 ArePlaced start (Idle ∷ rest) = ArePlaced (suc start) rest
 ArePlaced start (Run page ∷ rest) = (frame_at start ≡ frame page) × ArePlaced (suc start + length (groups page.function page.text)) rest
 
 -- the same for all runs behind the first pieces
-abbrev IsWholeFrom : List Piece → List Piece → Type 0
-IsWholeFrom front rest = (before : List Piece) (page : Page) (after : List Piece) → front ++ rest ≡ before ++ Run page ∷ after → frame_at (place before) ≡ frame page
+abbrev IsWholeFrom : List PlanPiece → List PlanPiece → Type 0
+IsWholeFrom front rest = (before : List PlanPiece) (page : Page) (after : List PlanPiece) → front ++ rest ≡ before ++ Run page ∷ after → frame_at (place before) ≡ frame page
 
-whole-later : (front : List Piece) (x : Piece) (rest : List Piece) → IsWholeFrom front (x ∷ rest) → IsWholeFrom (front ++ x ∷ []) rest
+whole-later : (front : List PlanPiece) (x : PlanPiece) (rest : List PlanPiece) → IsWholeFrom front (x ∷ rest) → IsWholeFrom (front ++ x ∷ []) rest
 whole-later front x rest h before page after e = h before page after (shift front x rest ∙ e)
 
-placed : (front rest : List Piece) (start : ℕ) → start ≡ place front → IsWholeFrom front rest → ArePlaced start rest
+placed : (front rest : List PlanPiece) (start : ℕ) → start ≡ place front → IsWholeFrom front rest → ArePlaced start rest
 unfolding ArePlaced run
 placed front [] start e h = tt
 placed front (Idle ∷ rest) start e h =
@@ -190,7 +190,7 @@ placed front (Run page ∷ rest) start e h =
 -- ---- the pages of pieces
 
 -- pieces begin with an address word
-kinds_begin : (before : List Piece) → to_address (kinds_of (before ++ Idle ∷ [])) ≡ Some []
+kinds_begin : (before : List PlanPiece) → to_address (kinds_of (before ++ Idle ∷ [])) ≡ Some []
 unfolding to_address
 kinds_begin [] = refl
 kinds_begin (Idle ∷ before) = refl
@@ -227,9 +227,9 @@ run_page listens start page rest f a =
     (le-leb (length (groups page.function page.text)) 140 (length-groups page.function page.text a.fits))
     ∙ page_kept (listens page.capcode) page rest a
 
-pub pages_of_pieces : (listens : ℕ → Bool) (start : ℕ) (before : List Piece) → AreUsable listens → ArePlaced start (before ++ Idle ∷ [])
-    → All IsAcceptable (pages (before ++ Idle ∷ []))
-    → map with_text (pages_said listens start (kinds_of (before ++ Idle ∷ []))) ≡ filter (λ page. listens page.capcode) (pages (before ++ Idle ∷ []))
+pub pages_of_pieces : (listens : ℕ → Bool) (start : ℕ) (before : List PlanPiece) → AreUsable listens → ArePlaced start (before ++ Idle ∷ [])
+    → All IsAcceptable (pages_in_order (before ++ Idle ∷ []))
+    → map with_text (pages_said listens start (kinds_of (before ++ Idle ∷ []))) ≡ filter (λ page. listens page.capcode) (pages_in_order (before ++ Idle ∷ []))
 unfolding pages_said to_address ArePlaced
 pages_of_pieces listens start [] u p h = ap (λ (xs : List HeardPage). map with_text (xs ++ [])) (idle_silent listens start None u)
 pages_of_pieces listens start (Idle ∷ before) u p h =
@@ -239,13 +239,13 @@ pages_of_pieces listens start (Idle ∷ before) u p h =
 pages_of_pieces listens start (Run page ∷ before) u p h =
     let gs = groups page.function page.text in
     let ks = kinds_of (before ++ Idle ∷ []) in
-    let a = All-head IsAcceptable page (pages (before ++ Idle ∷ [])) h in
-    let ih = pages_of_pieces listens (suc start + length (groups page.function page.text)) before u p.1 (All-tail IsAcceptable page (pages (before ++ Idle ∷ [])) h) in
+    let a = All-head IsAcceptable page (pages_in_order (before ++ Idle ∷ [])) h in
+    let ih = pages_of_pieces listens (suc start + length (groups page.function page.text)) before u p.1 (All-tail IsAcceptable page (pages_in_order (before ++ Idle ∷ [])) h) in
     ap₂ (λ (o : Option (List ℕ)) (ys : List HeardPage). map with_text (page_with listens start (Some (Address (high_of page.capcode) page.function)) o ++ ys))
     (messages_to_address gs ks (kinds_begin before)) (messages_give_none listens (suc start) gs ks)
     ∙ map-append with_text (page_with listens start (Some (Address (high_of page.capcode) page.function)) (Some gs)) (pages_said listens (suc start + length gs) ks)
     ∙ ap (λ (ys : List Page). map with_text (page_with listens start (Some (Address (high_of page.capcode) page.function)) (Some gs)) ++ ys) ih
-    ∙ run_page listens start page (filter (λ page. listens page.capcode) (pages (before ++ Idle ∷ []))) p.0 a
+    ∙ run_page listens start page (filter (λ page. listens page.capcode) (pages_in_order (before ++ Idle ∷ []))) p.0 a
 
 -- ---- the pages that a test keeps
 
@@ -276,15 +276,15 @@ schedule_pages listens accepted slots ws u h s near f kept k =
     let before = s.layout.idle_last.0 in
     let e = s.layout.idle_last.1 in
     let ps = before ++ Idle ∷ [] in
-    let all : All IsAcceptable (pages s.pieces) = All-permutation IsAcceptable accepted (pages s.pieces) s.layout.once h in
-    let ends : All IsAcceptable (pages ps) = subst (λ (xs : List Piece). All IsAcceptable (pages xs)) e all in
+    let all : All IsAcceptable (pages_in_order s.pieces) = All-permutation IsAcceptable accepted (pages_in_order s.pieces) s.layout.once h in
+    let ends : All IsAcceptable (pages_in_order ps) = subst (λ (xs : List PlanPiece). All IsAcceptable (pages_in_order xs)) e all in
     let is : slots ≡ words ps = s.slots_are ∙ ap words e in
     let close : AreNear (words ps) ws = subst (λ (us : List ℕ). AreNear us ws) is near in
     let at : ArePlaced 0 ps = subst (ArePlaced 0) e (placed [] s.pieces 0 refl s.layout.whole) in
     ap (λ (xs : List HeardPage). filter kept (map with_text xs))
     (pages_said-is listens 0 ws ∙ ap (pages_said listens 0) (near_kinds (words ps) ws (codewords-words ps ends) close ∙ kinds-words ps ends))
-    ∙ ap (filter kept) (pages_of_pieces listens 0 before u at ends ∙ ap (λ (xs : List Piece). filter (λ page. listens page.capcode) (pages xs)) (sym e))
-    ∙ filter_inner kept (λ page. listens page.capcode) (pages s.pieces) k.heard
-    ∙ sym (filter_inner kept (in_frame f) (pages s.pieces) k.frame)
+    ∙ ap (filter kept) (pages_of_pieces listens 0 before u at ends ∙ ap (λ (xs : List PlanPiece). filter (λ page. listens page.capcode) (pages_in_order xs)) (sym e))
+    ∙ filter_inner kept (λ page. listens page.capcode) (pages_in_order s.pieces) k.heard
+    ∙ sym (filter_inner kept (in_frame f) (pages_in_order s.pieces) k.frame)
     ∙ ap (filter kept) (s.layout.fair f)
     ∙ filter_inner kept (in_frame f) accepted k.frame

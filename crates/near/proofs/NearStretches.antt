@@ -8,9 +8,10 @@ use Rattle.bits.proofs.Numbers.{number-bits_of}
 use Rattle.codeword.specs.declared.words.TheConstants.{SYNC}
 use Rattle.air.specs.Air.{batches}
 use Rattle.air.proofs.Batches.{length-batches}
-use Rattle.receiver.specs.Stretches.{is_sync, is_sync_place, first_words, words_of, held_with, held_from, held_words, loss_with, loss_from, after_loss, after_sync, later_with, stretches_with, stretches}
-use Rattle.receiver.specs.Slots.{slots_with, slots_from, slots_of}
-use Rattle.receiver.specs.Windows.{filler, preamble_bits}
+use Rattle.receiver.specs.Stretches.{is_sync, is_sync_place, first_words, words_of_bits, held_with, held_from, held_words, loss_with, loss_from, after_loss, after_sync, later_with, stretches_with, stretches}
+use Rattle.receiver.specs.Slots.{slots_with, slots_from, stretch_slots}
+use Rattle.codeword.specs.Words.{filler}
+use Rattle.receiver.specs.Windows.{preamble_bits}
 use Rattle.receiver.proofs.Locks.{first_words-append, first_words-split}
 use Rattle.receiver.proofs.Stretches.{stretches-is, loss_goes}
 use Rattle.receiver.proofs.Windows.{finds_sync_word, filler_ends}
@@ -137,7 +138,7 @@ length-after_first n slots l =
 
 -- ---- the first stretch
 
-words_of-behind : (n : ℕ) (body rest : List Bool) → length body ≡ 32 * n → words_of (body ++ rest) ≡ first_words n body ++ words_of rest
+words_of-behind : (n : ℕ) (body rest : List Bool) → length body ≡ 32 * n → words_of_bits (body ++ rest) ≡ first_words n body ++ words_of_bits rest
 words_of-behind n body rest h =
     let l = length-append body rest in
     let e : length (body ++ rest) / 32 ≡ n + length rest / 32 = omega arith in
@@ -149,7 +150,7 @@ pub data After : List Bool → List (List ℕ) → Type 0 where
   nothing : After [] []
   next : (more : List Bool) → After (word_bits filler ++ more) (stretches more)
 
-filler_first : (more : List Bool) → words_of (word_bits filler ++ more) ≡ filler ∷ words_of more
+filler_first : (more : List Bool) → words_of_bits (word_bits filler ++ more) ≡ filler ∷ words_of_bits more
 unfolding first_words
 filler_first more =
     let l = length-append (word_bits filler) more in
@@ -164,7 +165,7 @@ filler_first more =
 pub record FirstStretch (slots : List ℕ) (all : List (List ℕ)) (later : List (List ℕ)) : Type 0 where
   pub words : List ℕ
   pub first : all ≡ words ∷ later
-  pub near : AreNear slots (slots_of words)
+  pub near : AreNear slots (stretch_slots words)
 
 lock_ends : (us : List ℕ) (n : ℕ) (slots : List ℕ) (body rest : List Bool) (later : List (List ℕ))
     → Frames 0 us slots → length us + 1 ≡ 17 * suc n → IsNearWords us body → After rest later
@@ -183,12 +184,12 @@ lock_ends us n slots body rest later frames count near nothing =
     }
 lock_ends us n slots body rest later frames count near (next more) =
     let l = length-near_words us body near in
-    let w : words_of (body ++ (word_bits filler ++ more)) ≡ first_words (length us) body ++ (filler ∷ words_of more) =
+    let w : words_of_bits (body ++ (word_bits filler ++ more)) ≡ first_words (length us) body ++ (filler ∷ words_of_bits more) =
     words_of-behind (length us) body (word_bits filler ++ more) l ∙ ap (λ (xs : List ℕ). first_words (length us) body ++ xs) (filler_first more) in
-    let f = framed_lock 0 us (first_words (length us) body) (filler ∷ words_of more) frames.framed (first_words-near us body near) in
+    let f = framed_lock 0 us (first_words (length us) body) (filler ∷ words_of_bits more) frames.framed (first_words-near us body near) in
     let n1 = f.as_long in
     let at : is_sync_place (0 + length (first_words (length us) body)) ≡ true = eq-eqb ((0 + length (first_words (length us) body)) % 17) 16 (omega arith) in
-    let ends = filler_ends (0 + length (first_words (length us) body)) (words_of more) at in
+    let ends = filler_ends (0 + length (first_words (length us) body)) (words_of_bits more) at in
     let left = dropped (first_words (length us) body) body more (omega arith) in
     let s = frames.slots-are in
     record {

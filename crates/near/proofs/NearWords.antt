@@ -5,7 +5,8 @@ use Rattle.bits.specs.Bits.{word_bits, words_bits, number, dist}
 use Rattle.bits.proofs.Lengths.{length-bits_of, length-words_bits}
 use Rattle.bits.proofs.Bytes.{words_bits-append}
 use Rattle.bits.proofs.Numbers.{number-lt}
-use Rattle.air.specs.Air.{filler, preamble}
+use Rattle.codeword.specs.Words.{filler}
+use Rattle.air.specs.Air.{preamble}
 use Rattle.air.specs.Near.{IsNearAir, word_behind}
 use Rattle.receiver.specs.Stretches.{first_words}
 use Rattle.receiver.specs.Windows.{preamble_bits}

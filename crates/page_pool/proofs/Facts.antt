@@ -7,7 +7,7 @@ use Rattle.page_text.specs.Page.{Page}
 use Rattle.page_pool.specs.Cells.{cells_for}
 use Rattle.page_pool.specs.Chain.{walk, times}
 use Rattle.page_pool.specs.Pool.{Live}
-use Rattle.page_pool.specs.Layout.{capcode_in, function_in, NONE, head, after_of, link_of, places, text, page_at, entry, used, IsRegion}
+use Rattle.page_pool.specs.Layout.{capcode_in, function_in, NONE, head, after_of, link_of, places, text_in_cells, page_at, entry, used, IsRegion}
 use Rattle.page_pool.specs.declared.heads.Head.{Head}
 use Rattle.page_pool.specs.declared.heads.Ends.{Ends}
 use Rattle.page_pool.proofs.Chains.{times-append, times-part, times-firsts, walk_is, walk_same}
@@ -28,11 +28,11 @@ own links hs c = let e = cells_for-suc (head hs c).length in (walk (link_of link
 
 -- the page of these cells and these parts of a head
 abbrev page_of : List ℕ → List ℕ → Fixed → Page
-page_of bytes cells f = record { capcode = capcode_in f.address; function = function_in f.address; text = text bytes cells f.length }
+page_of bytes cells f = record { capcode = capcode_in f.address; function = function_in f.address; text = text_in_cells bytes cells f.length }
 
 -- a page stays where its head, its cells and its text stay
 pub page-same : (bytes bytes' links links' : List ℕ) (hs hs' : List Head) (c : ℕ) → fixed (head hs' c) ≡ fixed (head hs c)
-    → places links' hs' c ≡ places links hs c → text bytes' (places links hs c) (head hs c).length ≡ text bytes (places links hs c) (head hs c).length
+    → places links' hs' c ≡ places links hs c → text_in_cells bytes' (places links hs c) (head hs c).length ≡ text_in_cells bytes (places links hs c) (head hs c).length
     → page_at bytes' links' hs' c ≡ page_at bytes links hs c
 page-same bytes bytes' links links' hs hs' c e p t =
     let a : page_at bytes' links' hs' c ≡ page_of bytes' (places links hs c) (fixed (head hs' c)) = ap (λ l. page_of bytes' l (fixed (head hs' c))) p in

@@ -3,7 +3,7 @@ use Rattle.std.proofs.Common.{◌≡◌, ℕ, List, [], ◌∷◌, ◌++◌, map
 use Rattle.std.proofs.lemmas.List.FromFn.{length-map-range_with_len}
 use Rattle.page_pool.specs.Chain.{walk}
 use Rattle.page_pool.specs.Pool.{Live}
-use Rattle.page_pool.specs.Layout.{after_of, byte_at, text, entry, IsRegion}
+use Rattle.page_pool.specs.Layout.{after_of, byte_at, text_in_cells, entry, IsRegion}
 use Rattle.page_pool.specs.declared.heads.Head.{Head}
 use Rattle.page_pool.specs.declared.heads.Ends.{Ends}
 use Rattle.page_pool.proofs.Facts as facts
@@ -27,7 +27,7 @@ map_split g (x ∷ xs) (d ∷ b) e a h =
     record { front = x ∷ s.front; c = s.c; back = s.back; is = ap (λ l. x ∷ l) s.is; named = s.named }
 
 -- how long a text is
-pub length-text : (bytes cells : List ℕ) (n : ℕ) → length (text bytes cells n) ≡ n
+pub length-text : (bytes cells : List ℕ) (n : ℕ) → length (text_in_cells bytes cells n) ≡ n
 length-text bytes cells n = length-map-range_with_len (byte_at bytes cells) 0 n
 
 -- the head's cell stands in the order

@@ -10,10 +10,10 @@ use Rattle.std.specs.List.{filter}
 use Rattle.std.specs.Prelude.{slice_set}
 use Rattle.page_text.specs.Page.{Page}
 use Rattle.page_pool.specs.Cells.{FitsPage, cells_for}
-use Rattle.page_pool.specs.Chain.{first_or, Chain, walk, times, step}
+use Rattle.page_pool.specs.Chain.{first_or, Chain, walk, times, cell_behind}
 use Rattle.codeword.specs.Capcodes.{frame_of}
 use Rattle.std.specs.Option.{is_some}
-use Rattle.page_pool.specs.Layout.{capcode_in, function_in, NONE, head, before_of, after_of, peer_before, peer_after, of_frame, ends, Linked, link_of, places, page_at, text, entry, used, linked, IsRegion}
+use Rattle.page_pool.specs.Layout.{capcode_in, function_in, NONE, head, before_of, after_of, peer_before, peer_after, of_frame, ends, Linked, link_of, places, page_at, text_in_cells, entry, used, linked, IsRegion}
 use Rattle.page_pool.specs.declared.heads.Head.{Head}
 use Rattle.page_pool.specs.declared.heads.Ends.{Ends}
 use Rattle.page_pool.proofs.Chains.{times-append, times-self, times-one, times-other, times-reverse, apart, last_is, chain_same, chain_first, chain_rest, chain_end, link_end, walk_is, walk_take, walk_more, length-walk, flat_map-same, map-same}
@@ -35,7 +35,7 @@ module _ (bytes links : List ℕ) (hs : List Head) (free spare first last count 
     (lives : is_some h.address ≡ true) (before_is : h.before ≡ last) (after_is : h.after ≡ NONE)
     (peer_before_is : h.peer_before ≡ (ends frames (frame_of (capcode_in h.address))).last) (peer_after_is : h.peer_after ≡ NONE) (same_size : length bytes' ≡ length bytes)
     (others : (k : ℕ) → times k (walk (link_of links) (suc m) free) ≡ 0 → (j : ℕ) → j < 32 → get_or bytes' (32 * k + j) 0 ≡ get_or bytes (32 * k + j) 0)
-    (t : List ℕ) (written : text bytes' (walk (link_of links) (suc m) free) h.length ≡ t)
+    (t : List ℕ) (written : text_in_cells bytes' (walk (link_of links) (suc m) free) h.length ≡ t)
     (fits : let q : Page = record { capcode = capcode_in h.address; function = function_in h.address; text = t } in FitsPage q) where
   -- the links before
   abbrev pub f : ℕ → ℕ
@@ -51,7 +51,7 @@ module _ (bytes links : List ℕ) (hs : List Head) (free spare first last count 
 
   -- the last cell of the page
   abbrev pub end : ℕ
-  end = step f m free
+  end = cell_behind f m free
 
   -- the links after
   abbrev pub links' : List ℕ
@@ -156,7 +156,7 @@ module _ (bytes links : List ℕ) (hs : List Head) (free spare first last count 
   places_kept c k = places-same links links' hs hs' c (fixed_kept c k) (λ x j. link_else x (apart end x (places links hs c) (end_else c k) j))
 
   -- other pages keep their texts
-  text_kept : (c : ℕ) → 0 < times c r.order → text bytes' (places links hs c) (head hs c).length ≡ text bytes (places links hs c) (head hs c).length
+  text_kept : (c : ℕ) → 0 < times c r.order → text_in_cells bytes' (places links hs c) (head hs c).length ≡ text_in_cells bytes (places links hs c) (head hs c).length
   text_kept c k = text-same bytes bytes' (places links hs c) (head hs c).length
       (λ x j i l. others x (let p = facts.part bytes links hs free spare first last count frames r x c k in omega (arith, p, one x, in_unused x, j)) i l)
       (length-walk f (cells_for (head hs c).length) c)
@@ -180,8 +180,8 @@ module _ (bytes links : List ℕ) (hs : List Head) (free spare first last count 
   pub page_new : page_at bytes' links' hs' free ≡ (let q : Page = record { capcode = capcode_in h.address; function = function_in h.address; text = t } in q)
   page_new =
       let a = linked-fixed_at hs free h free_below in
-      ap (λ (q : Fixed). let p : Page = record { capcode = capcode_in q.address; function = function_in q.address; text = text bytes' (places links' hs' free) q.length } in p) a
-      ∙ ap (λ (l : List ℕ). let p : Page = record { capcode = capcode_in h.address; function = function_in h.address; text = l } in p) (ap (λ l. text bytes' l h.length) places_new ∙ written)
+      ap (λ (q : Fixed). let p : Page = record { capcode = capcode_in q.address; function = function_in q.address; text = text_in_cells bytes' (places links' hs' free) q.length } in p) a
+      ∙ ap (λ (l : List ℕ). let p : Page = record { capcode = capcode_in h.address; function = function_in h.address; text = l } in p) (ap (λ l. text_in_cells bytes' l h.length) places_new ∙ written)
 
   -- no two heads stand at one cell
   one_order : (x : ℕ) → times x r.order ≤ 1

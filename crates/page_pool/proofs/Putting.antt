@@ -6,10 +6,10 @@ use Rattle.codeword.specs.Capcodes.{frame_of}
 use Rattle.std.specs.List.{flat_map}
 use Rattle.std.proofs.lemmas.List.{take-append-drop}
 use Rattle.page_pool.specs.Cells.{FitsPage, cells_for}
-use Rattle.page_pool.specs.Chain.{walk, times, step}
-use Rattle.page_pool.specs.Pool.{Pool, Puts, page}
-use Rattle.page_pool.specs.Layout.{NONE, ends, after_of, places, link_of, text, entry, linked, used, IsRegion}
-use Rattle.page_pool.specs.Region.{view_of, Holds}
+use Rattle.page_pool.specs.Chain.{walk, times, cell_behind}
+use Rattle.page_pool.specs.Pool.{Pool, PutsPage, page}
+use Rattle.page_pool.specs.Layout.{NONE, ends, after_of, places, link_of, text_in_cells, entry, linked, used, IsRegion}
+use Rattle.page_pool.specs.Region.{view_of, PoolHolds}
 use Rattle.page_pool.specs.declared.heads.Head.{Head}
 use Rattle.page_pool.specs.declared.heads.Ends.{Ends}
 use Rattle.page_pool.specs.declared.pool.Pool.TheInside.{Inside}
@@ -30,7 +30,7 @@ firsts_fit : (h : ℕ → List ℕ) (xs : List ℕ) → ((c : ℕ) → (r : List
 firsts_fit h [] own = omega arith
 firsts_fit h (c ∷ xs) own = omega (arith, length-append (h c) (flat_map h xs), ap length (own c).1, firsts_fit h xs own)
 
-module _ (s : Inside) (r : Holds s) (n k : ℕ) (kind : k ≡ cells_for n) (room : k ≤ s.spare) (links' : List ℕ) (same : links' ≡ s.links.items) where
+module _ (s : Inside) (r : PoolHolds s) (n k : ℕ) (kind : k ≡ cells_for n) (room : k ≤ s.spare) (links' : List ℕ) (same : links' ≡ s.links.items) where
   -- the page takes one cell and so many more
   pub m : (j : ℕ) × (cells_for n ≡ suc j)
   m = cells_for-suc n
@@ -63,14 +63,14 @@ module _ (s : Inside) (r : Holds s) (n k : ℕ) (kind : k ≡ cells_for n) (room
   cells_below' x h = let e : k - 1 + 1 ≡ cells_for n = omega (arith, kind, m.1) in cells_below x (subst (λ j. 0 < times x (walk (link_of links') j s.free)) e h)
 
   -- the last of them
-  pub end_is : (end : ℕ) → end ≡ step (link_of links') (k - 1) s.free → end ≡ step f m.0 s.free
-  end_is end h = let a : k - 1 ≡ m.0 = omega (arith, kind, m.1) in h ∙ ap (λ j. step (link_of links') j s.free) a ∙ ap (λ z. step (link_of z) m.0 s.free) same
+  pub end_is : (end : ℕ) → end ≡ cell_behind (link_of links') (k - 1) s.free → end ≡ cell_behind f m.0 s.free
+  end_is end h = let a : k - 1 ≡ m.0 = omega (arith, kind, m.1) in h ∙ ap (λ j. cell_behind (link_of links') j s.free) a ∙ ap (λ z. cell_behind (link_of z) m.0 s.free) same
 
   -- it is a cell
-  pub end_below : (end : ℕ) → end ≡ step (link_of links') (k - 1) s.free → end < length links'
+  pub end_below : (end : ℕ) → end ≡ cell_behind (link_of links') (k - 1) s.free → end < length links'
   end_below end h =
-      let a : times end (walk f (suc m.0) s.free) ≡ times end (walk f m.0 s.free) + times end (step f m.0 s.free ∷ []) = ap (times end) (walk_more f m.0 s.free) ∙ times-append end (walk f m.0 s.free) (step f m.0 s.free ∷ []) in
-      let b : times end (step f m.0 s.free ∷ []) ≡ 1 = ap (λ z. times end (z ∷ [])) (sym (end_is end h)) ∙ times-one end in
+      let a : times end (walk f (suc m.0) s.free) ≡ times end (walk f m.0 s.free) + times end (cell_behind f m.0 s.free ∷ []) = ap (times end) (walk_more f m.0 s.free) ∙ times-append end (walk f m.0 s.free) (cell_behind f m.0 s.free ∷ []) in
+      let b : times end (cell_behind f m.0 s.free ∷ []) ≡ 1 = ap (λ z. times end (z ∷ [])) (sym (end_is end h)) ∙ times-one end in
       cells_below end (omega (arith, a, b, ap (times end) walk_is))
 
   -- the first of them is a cell
@@ -78,15 +78,15 @@ module _ (s : Inside) (r : Holds s) (n k : ℕ) (kind : k ≡ cells_for n) (room
   free_below = facts.below_unused s.bytes.items s.links.items s.heads.items s.free s.spare s.first s.last s.count s.frames r s.free (omega (arith, mine_part s.free, times-self s.free (walk f m.0 (f s.free))))
 
 -- there are at most 65,536 pages
-pub counted : (s : Inside) (r : Holds s) → s.count ≤ 65536
+pub counted : (s : Inside) (r : PoolHolds s) → s.count ≤ 65536
 counted s r = omega (arith, r.count_is, r.total, r.most, firsts_fit (places s.links.items s.heads.items) r.order (own s.links.items s.heads.items), length-append (used s.links.items s.heads.items r.order) r.unused)
 
-module _ (s : Inside) (r : Holds s) (w : Pool) (v : view_of s ≡ w) (capcode : ℕ) (function : Function) (frame : ℕ) (frame_is : frame ≡ frame_of capcode) (t : List ℕ) (fits : FitsPage (page capcode function t))
+module _ (s : Inside) (r : PoolHolds s) (w : Pool) (v : view_of s ≡ w) (capcode : ℕ) (function : Function) (frame : ℕ) (frame_is : frame ≡ frame_of capcode) (t : List ℕ) (fits : FitsPage (page capcode function t))
     (k : ℕ) (kind : k ≡ cells_for (length t)) (room : k ≤ s.spare) (l0 l1 : List ℕ) (same0 : l0 ≡ s.links.items) (same1 : l1 ≡ s.links.items)
     (b0 bytes' B : List ℕ) (b0_is : b0 ≡ s.bytes.items) (same_size : length bytes' ≡ length b0)
-    (written : text bytes' (walk (link_of l0) (cells_for (length t)) s.free) (length t) ≡ t)
+    (written : text_in_cells bytes' (walk (link_of l0) (cells_for (length t)) s.free) (length t) ≡ t)
     (others : (q : ℕ) → times q (walk (link_of l0) (cells_for (length t)) s.free) ≡ 0 → (j : ℕ) → j < 32 → get_or bytes' (32 * q + j) 0 ≡ get_or b0 (32 * q + j) 0)
-    (end : ℕ) (end_found : end ≡ step (link_of l1) (k - 1) s.free) (l2 L : List ℕ) (F : ℕ) (same2 : l2 ≡ s.links.items) (F_is : F ≡ link_of l2 end)
+    (end : ℕ) (end_found : end ≡ cell_behind (link_of l1) (k - 1) s.free) (l2 L : List ℕ) (F : ℕ) (same2 : l2 ≡ s.links.items) (F_is : F ≡ link_of l2 end)
     (H : List Head) (A : ℕ)
     (B_is : B ≡ bytes') (L_is : L ≡ slice_set s.links.items end NONE)
     (H_from : H ≡ linked s.heads.items s.free (record { address = Some (record { capcode = capcode; function = function }); length = length t; before = s.last; after = NONE; peer_before = (ends s.frames frame).last; peer_after = NONE }))
@@ -113,7 +113,7 @@ module _ (s : Inside) (r : Holds s) (w : Pool) (v : view_of s ≡ w) (capcode : 
   j = m s r (length t) k kind room l1 same1
 
   -- its last cell
-  last : end ≡ step (link_of s.links.items) j.0 s.free
+  last : end ≡ cell_behind (link_of s.links.items) j.0 s.free
   last = end_is s r (length t) k kind room l1 same1 end end_found
 
   -- its cells
@@ -129,19 +129,19 @@ module _ (s : Inside) (r : Holds s) (w : Pool) (v : view_of s ≡ w) (capcode : 
   others' q none i h = others q (ap (times q) cells0 ∙ none) i h ∙ ap (λ z. get_or z (32 * q + i) 0) b0_is
 
   -- its text
-  written' : text bytes' (walk (link_of s.links.items) (suc j.0) s.free) (length t) ≡ t
-  written' = ap (λ z. text bytes' z (length t)) (sym cells0) ∙ written
+  written' : text_in_cells bytes' (walk (link_of s.links.items) (suc j.0) s.free) (length t) ≡ t
+  written' = ap (λ z. text_in_cells bytes' z (length t)) (sym cells0) ∙ written
 
   -- its cells were spare
   room' : suc j.0 ≤ s.spare
   room' = omega (arith, room, kind, j.1)
 
   -- the links after
-  L_is' : L ≡ slice_set s.links.items (step (link_of s.links.items) j.0 s.free) NONE
+  L_is' : L ≡ slice_set s.links.items (cell_behind (link_of s.links.items) j.0 s.free) NONE
   L_is' = L_is ∙ ap (λ z. slice_set s.links.items z NONE) last
 
   -- the free chain after
-  F_is' : F ≡ link_of s.links.items (step (link_of s.links.items) j.0 s.free)
+  F_is' : F ≡ link_of s.links.items (cell_behind (link_of s.links.items) j.0 s.free)
   F_is' = F_is ∙ ap (λ z. link_of z end) same2 ∙ ap (link_of s.links.items) last
 
   -- the invariant after `put`
@@ -152,9 +152,9 @@ module _ (s : Inside) (r : Holds s) (w : Pool) (v : view_of s ≡ w) (capcode : 
       (put.added s.bytes.items s.links.items s.heads.items s.free s.spare s.first s.last s.count s.frames r bytes' hd j.0 j.1 room' refl refl refl refl refl size' others' t written' fits)
 
   -- the page was added
-  pub meets : (let new : Pool = record { live = map (entry B L H) (walk (after_of H) (s.count + 1) A); spare = s.spare - k; region = B } in Puts w new (page capcode function t))
+  pub meets : (let new : Pool = record { live = map (entry B L H) (walk (after_of H) (s.count + 1) A); spare = s.spare - k; region = B } in PutsPage w new (page capcode function t))
   meets =
-      let L' : List ℕ = slice_set s.links.items (step (link_of s.links.items) j.0 s.free) NONE in
+      let L' : List ℕ = slice_set s.links.items (cell_behind (link_of s.links.items) j.0 s.free) NONE in
       let H' : List Head = linked s.heads.items s.free hd in
       record {
         entry = entry bytes' L' H' s.free;

@@ -9,10 +9,10 @@ use Rattle.std.proofs.Math.Dec.{eqb-suc-zero}
 use Rattle.std.proofs.lemmas.List.{map-append}
 use Rattle.std.proofs.lemmas.List.FromFn.{get_or-map-range_with_len}
 use Rattle.page_pool.specs.Cells.{cells_for, cells_of}
-use Rattle.page_pool.specs.Chain.{first_or, walk, times, step}
-use Rattle.page_pool.specs.Pool.{Live, Pool, Names, IsLive, in_frame}
-use Rattle.page_pool.specs.Layout.{NONE, head, of_frame, ends, places, link_of, byte_at, text, entry}
-use Rattle.page_pool.specs.Region.{view_of, Holds}
+use Rattle.page_pool.specs.Chain.{first_or, walk, times, cell_behind}
+use Rattle.page_pool.specs.Pool.{Live, Pool, Names, IsLive, live_in_frame}
+use Rattle.page_pool.specs.Layout.{NONE, head, of_frame, ends, places, link_of, byte_at, text_in_cells, entry}
+use Rattle.page_pool.specs.Region.{view_of, PoolHolds}
 use Rattle.page_pool.specs.declared.heads.Head.{Head}
 use Rattle.page_pool.specs.declared.pool.Pool.TheInside.{Inside}
 use Rattle.page_pool.proofs.Chains.{times-append, times-self, splits, get_or-walk}
@@ -67,7 +67,7 @@ is_some_of : {X : Type 0} (o : Option X) → is_some o ≡ true → IsSome o
 is_some_of None h = absurd (cc)
 is_some_of (Some x) h = refl
 
-module _ (s : Inside) (r : Holds s) (w : Pool) (v : view_of s ≡ w) where
+module _ (s : Inside) (r : PoolHolds s) (w : Pool) (v : view_of s ≡ w) where
   -- the heads
   abbrev pub hs : List Head
   hs = s.heads.items
@@ -145,25 +145,25 @@ module _ (s : Inside) (r : Holds s) (w : Pool) (v : view_of s ≡ w) where
     short = let f = r.fits t in_order in omega (arith, fits-short (at t).page f, len_is, length-text s.bytes.items (places links hs t) (head hs t).length)
 
     -- place k is the cell behind k links
-    pub place_is : (k : ℕ) → k < cells_for (head hs t).length → (links' : List ℕ) → links' ≡ links → step (link_of links') k t ≡ slice_index e.places k
-    place_is k h links' same = ap (λ z. step (link_of z) k t) same ∙ sym (get_or-walk (link_of links) (cells_for (head hs t).length) t k 0 h) ∙ ap (λ x. get_or x.places k 0) entry_is
+    pub place_is : (k : ℕ) → k < cells_for (head hs t).length → (links' : List ℕ) → links' ≡ links → cell_behind (link_of links') k t ≡ slice_index e.places k
+    place_is k h links' same = ap (λ z. cell_behind (link_of z) k t) same ∙ sym (get_or-walk (link_of links) (cells_for (head hs t).length) t k 0 h) ∙ ap (λ x. get_or x.places k 0) entry_is
 
     -- the cell of a byte is one of the region's
-    pub cell_below : (k : ℕ) → k < cells_for (head hs t).length → (links' : List ℕ) → links' ≡ links → step (link_of links') k t < length hs
+    pub cell_below : (k : ℕ) → k < cells_for (head hs t).length → (links' : List ℕ) → links' ≡ links → cell_behind (link_of links') k t < length hs
     cell_below k h links' same =
-        let f = cells_below k h links' same (step (link_of links') k t) (step_in (link_of links') (k + 1) t k (omega arith)) in
+        let f = cells_below k h links' same (cell_behind (link_of links') k t) (step_in (link_of links') (k + 1) t k (omega arith)) in
         omega (arith, f, r.links_cells, ap length same)
 
     -- byte i lies at its place
     pub byte_is : (i : ℕ) → i < length e.page.text → slice_index e.page.text i ≡ get_or s.bytes.items (32 * slice_index e.places (i / 32) + i % 32) 0
     byte_is i h =
-        let a : get_or (text s.bytes.items (places links hs t) (head hs t).length) i 0 ≡ byte_at s.bytes.items (places links hs t) i =
+        let a : get_or (text_in_cells s.bytes.items (places links hs t) (head hs t).length) i 0 ≡ byte_at s.bytes.items (places links hs t) i =
         get_or-map-range_with_len (byte_at s.bytes.items (places links hs t)) 0 (head hs t).length i i 0 (omega (arith, h, len_is)) (omega arith) in
         sym (ap (λ x. get_or x.page.text i 0) entry_is) ∙ a ∙ ap (λ x. byte_at s.bytes.items x.places i) entry_is
 
   -- no page of the frame is found where its chain is empty
-  pub no_first : (f : ℕ) → f < 8 → (ends s.frames f).first ≡ NONE → find (in_frame f) w.live ≡ None
-  no_first f l n = ap (find (in_frame f)) live_is ∙ find_none at (in_frame f) r.order
+  pub no_first : (f : ℕ) → f < 8 → (ends s.frames f).first ≡ NONE → find (live_in_frame f) w.live ≡ None
+  no_first f l n = ap (find (live_in_frame f)) live_is ∙ find_none at (live_in_frame f) r.order
       (elim (filter (of_frame hs f) r.order) as (λ xs. filter (of_frame hs f) r.order ≡ xs → xs ≡ []) [
         | [] ↦ λ e. refl
         | c ∷ xs ↦ λ e. absurd (let q : NONE ≡ c = sym n ∙ (r.peers f l).first_is ∙ ap (λ z. first_or z NONE) e in
@@ -172,11 +172,11 @@ module _ (s : Inside) (r : Holds s) (w : Pool) (v : view_of s ≡ w) where
       ] refl)
 
   -- the first page of the frame is the first of its chain
-  pub some_first : (f : ℕ) → f < 8 → (ends s.frames f).first ≢ NONE → find (in_frame f) w.live ≡ Some (at (ends s.frames f).first)
-  some_first f l ne = ap (find (in_frame f)) live_is ∙
-      (elim (filter (of_frame hs f) r.order) as (λ xs. filter (of_frame hs f) r.order ≡ xs → find (in_frame f) (map at r.order) ≡ Some (at (ends s.frames f).first)) [
+  pub some_first : (f : ℕ) → f < 8 → (ends s.frames f).first ≢ NONE → find (live_in_frame f) w.live ≡ Some (at (ends s.frames f).first)
+  some_first f l ne = ap (find (live_in_frame f)) live_is ∙
+      (elim (filter (of_frame hs f) r.order) as (λ xs. filter (of_frame hs f) r.order ≡ xs → find (live_in_frame f) (map at r.order) ≡ Some (at (ends s.frames f).first)) [
         | [] ↦ λ e. absurd (ne ((r.peers f l).first_is ∙ ap (λ z. first_or z NONE) e))
-        | c ∷ xs ↦ λ e. find_some at (in_frame f) r.order c xs e ∙ ap (λ z. Some (at z)) (sym ((r.peers f l).first_is ∙ ap (λ z. first_or z NONE) e))
+        | c ∷ xs ↦ λ e. find_some at (live_in_frame f) r.order c xs e ∙ ap (λ z. Some (at z)) (sym ((r.peers f l).first_is ∙ ap (λ z. first_or z NONE) e))
       ] refl)
 
   -- a head with an address is that of a live page

@@ -5,7 +5,7 @@ use Rattle.page_pool.specs.Cells.{FitsPage, cells_for, cells_of}
 use Rattle.page_pool.specs.Chain.{times}
 use Rattle.page_pool.specs.Pool.{Live, Pool, Names, in_use, cells, places_of, Lies, Sound}
 use Rattle.page_pool.specs.Layout.{head, places, link_of, page_at, entry, used}
-use Rattle.page_pool.specs.Region.{view_of, Holds}
+use Rattle.page_pool.specs.Region.{view_of, PoolHolds}
 use Rattle.page_pool.specs.declared.heads.Head.{Head}
 use Rattle.page_pool.specs.declared.pool.Pool.TheInside.{Inside}
 use Rattle.page_pool.proofs.Chains.{length-walk}
@@ -30,7 +30,7 @@ in_use-map bytes links hs (c ∷ xs) =
     let a : cells_of (page_at bytes links hs c) ≡ cells_for (head hs c).length = ap cells_for (length-text bytes (places links hs c) (head hs c).length) in
     omega (arith, a, length-append (places links hs c) (used links hs xs), length-walk (link_of links) (cells_for (head hs c).length) c, in_use-map bytes links hs xs)
 
-module _ (s : Inside) (r : Holds s) (w : Pool) (v : view_of s ≡ w) where
+module _ (s : Inside) (r : PoolHolds s) (w : Pool) (v : view_of s ≡ w) where
   -- the cells of the making
   all_is : cells w ≡ length s.heads.items
   all_is =

@@ -10,7 +10,7 @@ use Rattle.std.specs.List.{filter}
 use Rattle.std.specs.Prelude.{slice_set}
 use mathlib.Core.List.{reverse-cons}
 use Rattle.page_pool.specs.Cells.{FitsPage, cells_for}
-use Rattle.page_pool.specs.Chain.{first_or, Chain, walk, times, step}
+use Rattle.page_pool.specs.Chain.{first_or, Chain, walk, times, cell_behind}
 use Rattle.codeword.specs.Capcodes.{frame_of}
 use Rattle.std.specs.Option.{is_some}
 use Rattle.page_pool.specs.Layout.{capcode_in, NONE, head, before_of, after_of, peer_before, peer_after, of_frame, ends, Linked, link_of, places, page_at, entry, used, unlinked, IsRegion}
@@ -33,7 +33,7 @@ module _ (bytes links : List ℕ) (hs : List Head) (free spare first last count 
 
   -- the last of them
   abbrev pub end : ℕ
-  end = step f m t
+  end = cell_behind f m t
 
   -- the links after
   abbrev pub links' : List ℕ

@@ -2,10 +2,10 @@
 use Rattle.std.proofs.Common.{◌≡◌, ℕ, zero, suc, ◌+◌, ◌-◌, ◌<◌, ◌≤◌, cond, ◌==◌, List, [], ◌∷◌, ◌++◌, map, length, get_or, refl, sym, ◌∙◌, ap, subst, arith}
 use Rattle.std.specs.Prelude.{slice_set}
 use Rattle.page_pool.specs.Cells.{FitsPage, cells_for, cells_of}
-use Rattle.page_pool.specs.Chain.{walk, times, step}
-use Rattle.page_pool.specs.Pool.{Pool, IsLive, Takes}
+use Rattle.page_pool.specs.Chain.{walk, times, cell_behind}
+use Rattle.page_pool.specs.Pool.{Pool, IsLive, TakesPage}
 use Rattle.page_pool.specs.Layout.{head, ends, after_of, places, link_of, page_at, entry, unlinked, IsRegion}
-use Rattle.page_pool.specs.Region.{view_of, Holds}
+use Rattle.page_pool.specs.Region.{view_of, PoolHolds}
 use Rattle.page_pool.specs.declared.heads.Head.{Head}
 use Rattle.page_pool.specs.declared.heads.Ends.{Ends}
 use Rattle.page_pool.specs.declared.pool.Pool.TheInside.{Inside}
@@ -27,7 +27,7 @@ pub region-same : (bytes links L : List ℕ) (hs H : List Head) (free F spare S 
     → IsRegion bytes links hs free spare first last count frames → IsRegion bytes L H F S A Z count R
 region-same bytes links L hs H free F spare S first A last Z count frames R e1 e2 e3 e4 e5 e6 e7 r = rw (e1, e2, e3, e4, e5, e6, e7) r
 
-module _ (s : Inside) (r : Holds s) (w : Pool) (v : view_of s ≡ w) (t name : ℕ) (n : t ≡ name) (l : IsLive w name) where
+module _ (s : Inside) (r : PoolHolds s) (w : Pool) (v : view_of s ≡ w) (t name : ℕ) (n : t ≡ name) (l : IsLive w name) where
   -- the heads
   abbrev pub hs : List Head
   hs = s.heads.items
@@ -63,13 +63,13 @@ module _ (s : Inside) (r : Holds s) (w : Pool) (v : view_of s ≡ w) (t name : �
       omega (arith, ap length e, take.mine_below s.bytes.items links hs s.free s.spare s.first s.last s.count s.frames r t m.0 sp.0 sp.1 sp.2 m.1 x d)
 
   -- the last cell, as the code finds it
-  pub end_is : (links' : List ℕ) (k end : ℕ) → links' ≡ links → k ≡ cells_for (head hs t).length → end ≡ step (link_of links') (k - 1) t → end ≡ step (link_of links) m.0 t
+  pub end_is : (links' : List ℕ) (k end : ℕ) → links' ≡ links → k ≡ cells_for (head hs t).length → end ≡ cell_behind (link_of links') (k - 1) t → end ≡ cell_behind (link_of links) m.0 t
   end_is links' k end e f h =
       let a : k - 1 ≡ m.0 = omega (arith, f, m.1) in
-      h ∙ ap (λ j. step (link_of links') j t) a ∙ ap (λ z. step (link_of z) m.0 t) e
+      h ∙ ap (λ j. cell_behind (link_of links') j t) a ∙ ap (λ z. cell_behind (link_of z) m.0 t) e
 
   -- the last of them is a cell
-  pub end_below : step (link_of links) m.0 t < length links
+  pub end_below : cell_behind (link_of links) m.0 t < length links
   end_below = omega (arith, r.links_cells, take.end_below s.bytes.items links hs s.free s.spare s.first s.last s.count s.frames r t m.0 sp.0 sp.1 sp.2 m.1)
 
   -- at most 65,536 cells are spare
@@ -95,11 +95,11 @@ module _ (s : Inside) (r : Holds s) (w : Pool) (v : view_of s ≡ w) (t name : �
       ∙ ap both read
 
   module _ (L : List ℕ) (H : List Head) (R : List Ends) (k A Z end : ℕ) (h : Head) (kind : k ≡ cells_for (head hs t).length) (read : h ≡ head hs t)
-      (end_is : end ≡ step (link_of links) m.0 t) (L_is : L ≡ slice_set links end s.free) (H_is : H ≡ unlinked hs t)
+      (end_is : end ≡ cell_behind (link_of links) m.0 t) (L_is : L ≡ slice_set links end s.free) (H_is : H ≡ unlinked hs t)
       (A_is : A ≡ cond (s.first == t) h.after s.first) (Z_is : Z ≡ cond (s.last == t) h.before s.last)
       (R_is : R ≡ take.frames' s.bytes.items links hs s.free s.spare s.first s.last s.count s.frames r t m.0 sp.0 sp.1 sp.2 m.1) where
     -- the links after
-    L_is' : L ≡ slice_set links (step (link_of links) m.0 t) s.free
+    L_is' : L ≡ slice_set links (cell_behind (link_of links) m.0 t) s.free
     L_is' = L_is ∙ ap (λ z. slice_set links z s.free) end_is
 
     -- the first page after
@@ -118,7 +118,7 @@ module _ (s : Inside) (r : Holds s) (w : Pool) (v : view_of s ≡ w) (t name : �
         (take.taken s.bytes.items links hs s.free s.spare s.first s.last s.count s.frames r t m.0 sp.0 sp.1 sp.2 m.1)
 
     -- the page was taken out
-    pub meets : (let new : Pool = record { live = map (entry s.bytes.items L H) (walk (after_of H) (s.count - 1) A); spare = s.spare + k; region = s.bytes.items } in Takes w new name)
+    pub meets : (let new : Pool = record { live = map (entry s.bytes.items L H) (walk (after_of H) (s.count - 1) A); spare = s.spare + k; region = s.bytes.items } in TakesPage w new name)
     meets = record {
       before = map (entry s.bytes.items links hs) sp.0;
       entry = entry s.bytes.items links hs t;
@@ -126,8 +126,8 @@ module _ (s : Inside) (r : Holds s) (w : Pool) (v : view_of s ≡ w) (t name : �
       ticket = n;
       was = sym (ap (λ p. p.live) v) ∙ take.was s.bytes.items links hs s.free s.spare s.first s.last s.count s.frames r t m.0 sp.0 sp.1 sp.2 m.1;
       left = ap (λ z. map (entry s.bytes.items z H) (walk (after_of H) (s.count - 1) A)) L_is'
-          ∙ ap (λ z. map (entry s.bytes.items (slice_set links (step (link_of links) m.0 t) s.free) z) (walk (after_of z) (s.count - 1) A)) H_is
-          ∙ ap (λ z. map (entry s.bytes.items (slice_set links (step (link_of links) m.0 t) s.free) (unlinked hs t)) (walk (after_of (unlinked hs t)) (s.count - 1) z)) A_is'
+          ∙ ap (λ z. map (entry s.bytes.items (slice_set links (cell_behind (link_of links) m.0 t) s.free) z) (walk (after_of z) (s.count - 1) A)) H_is
+          ∙ ap (λ z. map (entry s.bytes.items (slice_set links (cell_behind (link_of links) m.0 t) s.free) (unlinked hs t)) (walk (after_of (unlinked hs t)) (s.count - 1) z)) A_is'
           ∙ take.left s.bytes.items links hs s.free s.spare s.first s.last s.count s.frames r t m.0 sp.0 sp.1 sp.2 m.1;
       spare = ap (λ z. s.spare + z) (kind ∙ ap cells_for (sym (length-text s.bytes.items (places links hs t) (head hs t).length))) ∙ ap (λ p. p.spare + cells_of (page_at s.bytes.items links hs t)) v;
       region = ap (λ p. p.region) v;

@@ -9,16 +9,16 @@ use Rattle.codeword.specs.declared.functions.Function.TheVariants.{Numeric, Tone
 use Rattle.page_text.specs.Fits.{Fits}
 use Rattle.page_text.specs.Page.{Page}
 use Rattle.page_pool.specs.Cells.{FitsPage, cells_for}
-use Rattle.page_pool.specs.Chain.{times, walk, step}
-use Rattle.page_pool.specs.Layout.{byte_at, text}
+use Rattle.page_pool.specs.Chain.{times, walk, cell_behind}
+use Rattle.page_pool.specs.Layout.{byte_at, text_in_cells}
 use Rattle.page_pool.proofs.Chains.{times-read, length-walk, get_or-walk, read_apart, step_more}
 
 -- the same, by the function
-short : (function : Function) (text : List ℕ) → Fits function text → length text ≤ 400
-short Numeric text f = omega (arith, f.short)
-short Tone1 text f = omega (arith, ap length f)
-short Tone2 text f = omega (arith, ap length f)
-short Alpha text f = f.short
+short : (function : Function) (text_in_cells : List ℕ) → Fits function text_in_cells → length text_in_cells ≤ 400
+short Numeric text_in_cells f = omega (arith, f.short)
+short Tone1 text_in_cells f = omega (arith, ap length f)
+short Tone2 text_in_cells f = omega (arith, ap length f)
+short Alpha text_in_cells f = f.short
 
 -- a text that fits its function has at most 400 characters
 pub fits-short : (p : Page) → FitsPage p → length p.text ≤ 400
@@ -45,14 +45,14 @@ abbrev pub SameCells : List ℕ → List ℕ → List ℕ → Type 0
 SameCells old new cells = (k : ℕ) → 0 < times k cells → (j : ℕ) → j < 32 → get_or new (32 * k + j) 0 ≡ get_or old (32 * k + j) 0
 
 -- a text stays where its bytes stay
-pub text-same : (old new cells : List ℕ) (n : ℕ) → SameCells old new cells → length cells ≡ cells_for n → text new cells n ≡ text old cells n
+pub text-same : (old new cells : List ℕ) (n : ℕ) → SameCells old new cells → length cells ≡ cells_for n → text_in_cells new cells n ≡ text_in_cells old cells n
 text-same old new cells n same size =
     map-range_same (byte_at old cells) (byte_at new cells) 0 n
     (λ i l k. let m : i / 32 < length cells = omega (arith, cells_for-enough n i (omega (arith, k))) in
     same (get_or cells (i / 32) 0) (times-read cells (i / 32) 0 m) (i % 32) (omega arith))
 
 -- a cell of a walk
-pub step_in : (f : ℕ → ℕ) (n c k : ℕ) → k < n → 0 < times (step f k c) (walk f n c)
+pub step_in : (f : ℕ → ℕ) (n c k : ℕ) → k < n → 0 < times (cell_behind f k c) (walk f n c)
 step_in f n c k h = subst (λ z. 0 < times z (walk f n c)) (get_or-walk f n c k 0 h) (times-read (walk f n c) k 0 (omega (arith, h, length-walk f n c)))
 
 -- two bytes of a text lie at two places
@@ -85,19 +85,19 @@ others_more bytes cells i a v l at k none j h =
     let p' : 0 < times k cells = subst (λ z. 0 < times z cells) q p in omega (arith, p', none))
 
 -- the text that was written
-pub text_is : (bytes cells chars : List ℕ) → ((k : ℕ) → k < length chars → byte_at bytes cells k ≡ get_or chars k 0) → text bytes cells (length chars) ≡ chars
+pub text_is : (bytes cells chars : List ℕ) → ((k : ℕ) → k < length chars → byte_at bytes cells k ≡ get_or chars k 0) → text_in_cells bytes cells (length chars) ≡ chars
 text_is bytes cells chars h = sym (fill_by_all (byte_at bytes cells) chars (length chars) 0 refl (λ k l. sym (h k l)))
 
 -- the cell of byte i, from that of the byte before
-pub cell_next : (f : ℕ → ℕ) (from i old new : ℕ) → old ≡ step f ((i - 1) / 32) from → 0 < i → i % 32 ≡ 0 → new ≡ f old → new ≡ step f (i / 32) from
+pub cell_next : (f : ℕ → ℕ) (from i old new : ℕ) → old ≡ cell_behind f ((i - 1) / 32) from → 0 < i → i % 32 ≡ 0 → new ≡ f old → new ≡ cell_behind f (i / 32) from
 cell_next f from i old new e l z n =
     let d : i / 32 ≡ suc ((i - 1) / 32) = omega (arith, l, z) in
-    n ∙ ap f e ∙ sym (step_more f ((i - 1) / 32) from) ∙ ap (λ k. step f k from) (sym d)
+    n ∙ ap f e ∙ sym (step_more f ((i - 1) / 32) from) ∙ ap (λ k. cell_behind f k from) (sym d)
 
 -- the same within a cell
-pub cell_stays : (f : ℕ → ℕ) (from i old new : ℕ) → old ≡ step f ((i - 1) / 32) from → i % 32 ≢ 0 → new ≡ old → new ≡ step f (i / 32) from
-cell_stays f from i old new e z n = n ∙ e ∙ ap (λ k. step f k from) (let d : (i - 1) / 32 ≡ i / 32 = omega (arith, z) in d)
+pub cell_stays : (f : ℕ → ℕ) (from i old new : ℕ) → old ≡ cell_behind f ((i - 1) / 32) from → i % 32 ≢ 0 → new ≡ old → new ≡ cell_behind f (i / 32) from
+cell_stays f from i old new e z n = n ∙ e ∙ ap (λ k. cell_behind f k from) (let d : (i - 1) / 32 ≡ i / 32 = omega (arith, z) in d)
 
 -- the same at the first byte
-pub cell_starts : (f : ℕ → ℕ) (from i old new : ℕ) → old ≡ step f ((i - 1) / 32) from → i ≤ 0 → new ≡ old → new ≡ step f (i / 32) from
-cell_starts f from i old new e z n = n ∙ e ∙ ap (λ k. step f k from) (let d : (i - 1) / 32 ≡ i / 32 = omega (arith, z) in d)
+pub cell_starts : (f : ℕ → ℕ) (from i old new : ℕ) → old ≡ cell_behind f ((i - 1) / 32) from → i ≤ 0 → new ≡ old → new ≡ cell_behind f (i / 32) from
+cell_starts f from i old new e z n = n ∙ e ∙ ap (λ k. cell_behind f k from) (let d : (i - 1) / 32 ≡ i / 32 = omega (arith, z) in d)

@@ -2,7 +2,7 @@
 use Rattle.std.specs.Prelude.{◌≡◌, ℕ, ◌+◌, List, [], ◌∷◌}
 use Rattle.page_text.specs.Page.{Page}
 use Rattle.page_pool.specs.Cells.{cells_of}
-use Rattle.page_pool.specs.Pool.{Pool, Puts}
+use Rattle.page_pool.specs.Pool.{Pool, PutsPage}
 
 -- the cells of pages
 abbrev pub cells_of_all : List Page → ℕ
@@ -12,4 +12,4 @@ cells_of_all (p ∷ ps) = cells_of p + cells_of_all ps
 -- the pool gained these pages at its end, in their order
 abbrev pub Gains : Pool → Pool → List Page → Type 0
 Gains old new [] = new ≡ old
-Gains old new (page ∷ pages) = (mid : Pool) × Puts old mid page × Gains mid new pages
+Gains old new (page ∷ pages) = (mid : Pool) × PutsPage old mid page × Gains mid new pages

@@ -81,12 +81,12 @@ abbrev pub byte_at : List ℕ → List ℕ → ℕ → ℕ
 byte_at bytes cells i = get_or bytes (32 * get_or cells (i / 32) 0 + i % 32) 0
 
 -- so many characters of a text that lies in these cells
-abbrev pub text : List ℕ → List ℕ → ℕ → List ℕ
-text bytes cells n = map (byte_at bytes cells) (range_with_len 0 n)
+abbrev pub text_in_cells : List ℕ → List ℕ → ℕ → List ℕ
+text_in_cells bytes cells n = map (byte_at bytes cells) (range_with_len 0 n)
 
 -- the page whose head stands at c
 abbrev pub page_at : List ℕ → List ℕ → List Head → ℕ → Page
-page_at bytes links hs c = record { capcode = capcode_in (head hs c).address; function = function_in (head hs c).address; text = text bytes (places links hs c) (head hs c).length }
+page_at bytes links hs c = record { capcode = capcode_in (head hs c).address; function = function_in (head hs c).address; text = text_in_cells bytes (places links hs c) (head hs c).length }
 
 -- the live page whose head stands at c
 abbrev pub entry : List ℕ → List ℕ → List Head → ℕ → Live

@@ -34,8 +34,8 @@ abbrev pub cells : Pool → ℕ
 cells w = in_use w.live + w.spare
 
 -- the page is of the frame
-abbrev pub in_frame : ℕ → Live → Bool
-in_frame f e = frame_of e.page.capcode == f
+abbrev pub live_in_frame : ℕ → Live → Bool
+live_in_frame f e = frame_of e.page.capcode == f
 
 -- the ticket names a live page, e, which stands between these two parts of the list
 pub record Names (w : Pool) (t : ℕ) (e : Live) : Type 0 where
@@ -49,14 +49,14 @@ abbrev pub IsLive : Pool → ℕ → Type 0
 IsLive w t = (e : Live) × Names w t e
 
 -- the page was added at the end
-pub record Puts (old new : Pool) (page : Page) : Type 0 where
+pub record PutsPage (old new : Pool) (page : Page) : Type 0 where
   pub entry : Live
   pub is : entry.page ≡ page
   pub at_end : new.live ≡ old.live ++ entry ∷ []
   pub spare : new.spare + cells_of page ≡ old.spare
 
 -- the page of this ticket was taken out
-pub record Takes (old new : Pool) (t : ℕ) : Type 0 where
+pub record TakesPage (old new : Pool) (t : ℕ) : Type 0 where
   pub before : List Live
   pub entry : Live
   pub after : List Live
@@ -100,6 +100,6 @@ pub record TakesFirst (old new : Pool) (f : ℕ) (e : Live) : Type 0 where
   pub before : List Live
   pub after : List Live
   pub was : old.live ≡ before ++ e ∷ after
-  pub mine : in_frame f e ≡ true
-  pub none_before : filter (in_frame f) before ≡ []
+  pub mine : live_in_frame f e ≡ true
+  pub none_before : filter (live_in_frame f) before ≡ []
   pub left : new.live ≡ before ++ after

@@ -14,5 +14,5 @@ view_of s = record {
 }
 
 -- the invariant of a pool, over its fields
-abbrev pub Holds : Inside → Type 0
-Holds s = IsRegion s.bytes.items s.links.items s.heads.items s.free s.spare s.first s.last s.count s.frames
+abbrev pub PoolHolds : Inside → Type 0
+PoolHolds s = IsRegion s.bytes.items s.links.items s.heads.items s.free s.spare s.first s.last s.count s.frames

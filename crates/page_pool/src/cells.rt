@@ -2,8 +2,8 @@
 
 ghost use Rattle.std.specs.Prelude.{◌≡◌, ℕ, ◌+◌, ◌*◌, ◌<◌, ◌≤◌, length, slice_set, get_or};
 ghost use Rattle.page_pool.specs.Cells.{cells_for};
-ghost use Rattle.page_pool.specs.Chain.{AreBelow, AreDistinct, walk, step};
-ghost use Rattle.page_pool.specs.Layout.{NONE, KeepsOthers, cells_from, link_of, text};
+ghost use Rattle.page_pool.specs.Chain.{AreBelow, AreDistinct, walk, cell_behind};
+ghost use Rattle.page_pool.specs.Layout.{NONE, KeepsOthers, cells_from, link_of, text_in_cells};
 
 /// The characters that a cell holds.
 pub(crate) const CELL: usize = 32;
@@ -26,7 +26,7 @@ pub(crate) fn cells_for(length: usize) -> u32
 /// The cell so many links behind another.
 pub(crate) fn cell_at(links: &[u32], from: u32, k: u32) -> u32
     requires { AreBelow (length links.now) (walk (link_of links.now) (k + 1) from) }
-    ensures { result ≡ step (link_of links.now) k from }
+    ensures { result ≡ cell_behind (link_of links.now) k from }
 {
     let mut cell = from;
     for hop in 0..k {
@@ -42,7 +42,7 @@ pub(crate) fn write_text(bytes: &mut [u8], links: &[u32], from: u32, chars: &[u8
     requires apart { AreDistinct (cells_from links.now from (length chars.now)) }
     requires room { length bytes.old ≡ 32 * length links.now }
     requires most { length links.now ≤ 65536 }
-    ensures written { text bytes.new (cells_from links.now from (length chars.now)) (length chars.now) ≡ chars.now }
+    ensures written { text_in_cells bytes.new (cells_from links.now from (length chars.now)) (length chars.now) ≡ chars.now }
     ensures others { KeepsOthers bytes.old bytes.new (cells_from links.now from (length chars.now)) }
 {
     let mut cell = from;

@@ -53,15 +53,15 @@ impl Model for Pool {
 
     ghost Value = { Waiting };
 
-    ghost use Rattle.page_pool.specs.Region.{view_of, Holds};
+    ghost use Rattle.page_pool.specs.Region.{view_of, PoolHolds};
 
     ghost view = { view_of };
 
-    ghost invariant = { Holds };
+    ghost invariant = { PoolHolds };
 }
 
 impl Pool {
-    ghost use Rattle.page_pool.specs.Pool.{Live, page, Names, Puts, Takes, IsLive, Sound, cells, in_frame};
+    ghost use Rattle.page_pool.specs.Pool.{Live, page, Names, PutsPage, TakesPage, IsLive, Sound, cells, live_in_frame};
 
     /// A pool of so many cells, 1 to 65,536, without pages: all cells are spare. Memory comes only where there was none for the
     /// cells. No later call takes memory.
@@ -103,7 +103,7 @@ impl Pool {
     /// nothing changes then.
     pub fn put(&mut self, capcode: Capcode, function: Function, text: &[u8]) -> Result<(), Full>
         requires { Fits function text.now }
-        ensures put { OnOk result (Puts self.old self.new (page capcode function text.now)) }
+        ensures put { OnOk result (PutsPage self.old self.new (page capcode function text.now)) }
         ensures full { IsErr result ↔ self.old.spare < cells_for (length text.now) }
         ensures unchanged { OnErr result (self.new ≡ self.old) }
     {
@@ -154,7 +154,7 @@ impl Pool {
     /// The first live page of a frame, 0 to 7. None exactly where the frame has none.
     pub fn first(&self, frame: u32) -> Option<Ticket>
         requires { frame < 8 }
-        ensures first { result ≡ option_map (λ (e : Live). e.ticket) (find (in_frame frame) self.now.live) }
+        ensures first { result ≡ option_map (λ (e : Live). e.ticket) (find (live_in_frame frame) self.now.live) }
         ensures sound { Sound self.now }
     {
         let ends = self.frames[frame as usize];
@@ -225,7 +225,7 @@ impl Pool {
     /// Takes a live page out. The others keep their order and their cells, and its cells are spare.
     pub fn take(&mut self, t: Ticket)
         requires { IsLive self.old t }
-        ensures { Takes self.old self.new t }
+        ensures { TakesPage self.old self.new t }
     {
         let at = t.cell as usize;
         let head = self.heads[at];

@@ -14,8 +14,8 @@ hex_digit n = slice_index (codes "0123456789ABCDEF") n
 
 -- how a byte of a text is written: a backslash, LF and CR by two characters, other characters 0x20 to 0x7E as themselves, and any
 -- other byte by \x and two hexadecimal digits
-abbrev pub escaped : ℕ → List ℕ
-escaped c =
+abbrev pub escaped_byte : ℕ → List ℕ
+escaped_byte c =
     if c == 92 then codes "\\\\"
     else if c == 10 then codes "\\n"
     else if c == 13 then codes "\\r"
@@ -24,4 +24,4 @@ escaped c =
 
 -- seven digits of the capcode, the function's letter, the text, LF
 unfoldable pub line_of : ℕ → Function → List ℕ → List ℕ
-line_of capcode function text = decimal_digits 7 capcode ++ codes " " ++ letter_of function ∷ [] ++ codes " " ++ flat_map escaped text ++ 10 ∷ []
+line_of capcode function text = decimal_digits 7 capcode ++ codes " " ++ letter_of function ∷ [] ++ codes " " ++ flat_map escaped_byte text ++ 10 ∷ []

@@ -3,7 +3,7 @@
 ghost use Rattle.std.specs.Prelude.{◌≡◌, ◌+◌, ◌*◌, ◌%◌, ◌<◌, ◌≤◌, [], ◌∷◌, ◌++◌, flat_map, length};
 ghost use Rattle.arrayvec.specs.ArrayVec.{array_vec_len};
 ghost use Rattle.wires.specs.Written.{Puts};
-ghost use Rattle.page_text.specs.Line.{decimal_digits, escaped, hex_digit as hex_digit_of, line_of};
+ghost use Rattle.page_text.specs.Line.{decimal_digits, escaped_byte, hex_digit as hex_digit_of, line_of};
 
 use arrayvec::ArrayVec;
 use codeword::{Capcode, Function};
@@ -91,7 +91,7 @@ fn digit(number: u32) -> u8
 /// Appends the bytes of a text as they are written.
 fn push_text(text: &[u8], line: &mut ArrayVec<u8, LINE>)
     requires { array_vec_len line.old + ESCAPED * length text.now ≤ LINE }
-    ensures items { line.new.items ≡ line.old.items ++ flat_map escaped text.now }
+    ensures items { line.new.items ≡ line.old.items ++ flat_map escaped_byte text.now }
     ensures few { array_vec_len line.new ≤ array_vec_len line.old + ESCAPED * length text.now }
 {
     for c in text {
@@ -102,7 +102,7 @@ fn push_text(text: &[u8], line: &mut ArrayVec<u8, LINE>)
 /// Appends one byte of a text as it is written.
 fn push_escaped(c: u8, line: &mut ArrayVec<u8, LINE>)
     requires { array_vec_len line.old + ESCAPED ≤ LINE }
-    ensures items { line.new.items ≡ line.old.items ++ escaped c }
+    ensures items { line.new.items ≡ line.old.items ++ escaped_byte c }
     ensures few { array_vec_len line.new ≤ array_vec_len line.old + ESCAPED }
 {
     match c {

@@ -36,6 +36,14 @@ pub is_found : (keys : List ℕ) (n : ℕ) (o : Option ℕ) → list_any (is_at 
 is_found keys n None at usable s = absurd (s (usable n (sym (contains-is_one_of keys n) ∙ at)))
 is_found keys n (Some c) at usable s = (s.1, sym (contains-is_one_of keys n) ∙ at)
 
+-- no unusable number is one of usable ones
+pub none_found : (keys : List ℕ) (n : ℕ) → ((c : ℕ) → is_one_of keys c ≡ true → IsUsable c) → (IsUsable n → ⊥) → is_one_of keys n ≡ false
+none_found keys n usable unusable = not_true (is_one_of keys n) refl
+  where
+    not_true : (b : Bool) → is_one_of keys n ≡ b → b ≡ false
+    not_true true e = absurd (unusable (usable n e))
+    not_true false e = refl
+
 -- a key of a map
 pub has_key-is_one_of : (es : List (ℕ × ℕ)) (n : ℕ) → is_some (lookup (is_at (nat_cmp n)) es) ≡ is_one_of (keys_of es) n
 has_key-is_one_of es n = is_some-lookup (is_at (nat_cmp n)) es ∙ contains-is_one_of (keys_of es) n

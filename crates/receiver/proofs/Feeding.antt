@@ -9,9 +9,9 @@ use Rattle.bits.proofs.Numbers.{bits_of-number_from, number_from-bits_of, number
 use Rattle.receiver.specs.Registers.{last_32}
 use Rattle.receiver.specs.Stretches.{is_sync, after_sync}
 use Rattle.receiver.specs.Heard.{HeardPage}
-use Rattle.receiver.specs.Locks.{lock_of, Hunts, Holds}
-use Rattle.receiver.specs.Fronts.{FrontEnd, Hunt, Locking, front_of, FrontStandsFor, HasUnderWay}
-use Rattle.receiver.specs.FrontSteps.{Shows, Hears}
+use Rattle.receiver.specs.Locks.{lock_of, Hunts, LockHolds}
+use Rattle.receiver.specs.Fronts.{FrontEnd, Hunt, Locking, front_end_of, FrontStandsFor, HasUnderWay}
+use Rattle.receiver.specs.FrontSteps.{Shows, HearsPage}
 use Rattle.receiver.specs.Steps.{HuntsOn, Finds, HuntsThrough}
 use Rattle.wires.specs.Pieces.{taken_of}
 use Rattle.wires.proofs.Pieces.{taken_is, last_bits, low_bits}
@@ -35,21 +35,21 @@ shows_fed front after event more fed was is bits here =
 
 pub hears_fed : (front after : FrontEnd) (event : FrontEvent) (more : List Bool) → Feeds front after event more
     → (was : FrontEnd) → front ≡ was → (listens : ℕ → Bool) (page : Option HeardPage) (bits : List Bool) → HasUnderWay listens was page bits
-    → Hears listens page after event bits (bits ++ more)
+    → HearsPage listens page after event bits (bits ++ more)
 hears_fed front after event more fed was is listens page bits here =
     hears front after event bits (bits ++ more) (fed bits) listens page (subst (λ (f : FrontEnd). HasUnderWay listens f page bits) (sym is) here)
 
 -- ---- a hunt
 
 pub still_hunting : (locked : Bool) (place : ℕ) (kept next more : List Bool) → locked ≡ false → HuntsOn kept next more
-    → Feeds (front_of locked place kept) (front_of locked place next) Still more
+    → Feeds (front_end_of locked place kept) (front_end_of locked place next) Still more
 still_hunting false place kept next more is on = hunt_still kept next more on
 still_hunting true place kept next more is on = cc
 
 pub found : (locked : Bool) (place : ℕ) (kept empty more : List Bool) → locked ≡ false → empty ≡ [] → Finds kept more
-    → Feeds (front_of locked place kept) (Locking (lock_of 0 empty)) Batch more
+    → Feeds (front_end_of locked place kept) (Locking (lock_of 0 empty)) Batch more
 found false place kept empty more is e finds =
-    hunt_found kept (lock_of 0 empty) more (λ (bits : List Bool) (h : Hunts kept bits). (finds bits h, subst (λ (xs : List Bool). Holds (lock_of 0 xs) []) (sym e) holds_nothing))
+    hunt_found kept (lock_of 0 empty) more (λ (bits : List Bool) (h : Hunts kept bits). (finds bits h, subst (λ (xs : List Bool). LockHolds (lock_of 0 xs) []) (sym e) holds_nothing))
 found true place kept empty more is e finds = cc
 
 -- ---- a lock
@@ -60,33 +60,33 @@ pub record Joined (kept next more : List Bool) : Type 0 where
   pub next-is : next ≡ kept ++ more
 
 pub still_locked : (locked : Bool) (place : ℕ) (kept next more : List Bool) → locked ≡ true → Joined kept next more → length next < 32
-    → Feeds (front_of locked place kept) (front_of locked place next) Still more
+    → Feeds (front_end_of locked place kept) (front_end_of locked place next) Still more
 still_locked true place kept next more is j short =
     lock_still (lock_of place kept) (lock_of place next) more
-    (λ (bits : List Bool) (h : Holds (lock_of place kept) bits). stays (lock_of place kept) bits next more record { holds = h; fits = j.fits; kept-is = j.next-is } short)
+    (λ (bits : List Bool) (h : LockHolds (lock_of place kept) bits). stays (lock_of place kept) bits next more record { holds = h; fits = j.fits; kept-is = j.next-is } short)
 still_locked false place kept next more is j short = cc
 
 pub slot : (locked : Bool) (place : ℕ) (kept next more empty : List Bool) (word : ℕ) → locked ≡ true → Joined kept next more → 32 ≤ length next → empty ≡ []
-    → word ≡ number next → place < 16 → Feeds (front_of locked place kept) (front_of locked (place + 1) empty) (Slot place word) more
+    → word ≡ number next → place < 16 → Feeds (front_end_of locked place kept) (front_end_of locked (place + 1) empty) (Slot place word) more
 slot true place kept next more empty word is j full e w p =
     lock_slot (lock_of place kept) (lock_of (place + 1) empty) place word more
-    (λ (bits : List Bool) (h : Holds (lock_of place kept) bits).
+    (λ (bits : List Bool) (h : LockHolds (lock_of place kept) bits).
     rw (e, w) (takes_slot (lock_of place kept) bits next more record { holds = h; fits = j.fits; kept-is = j.next-is } full p))
 slot false place kept next more empty word is j full e w p = cc
 
 pub batch : (locked : Bool) (place : ℕ) (kept next more empty : List Bool) → locked ≡ true → Joined kept next more → 32 ≤ length next → empty ≡ []
-    → 16 ≤ place → is_sync (number next) ≡ true → Feeds (front_of locked place kept) (front_of locked 0 empty) Batch more
+    → 16 ≤ place → is_sync (number next) ≡ true → Feeds (front_end_of locked place kept) (front_end_of locked 0 empty) Batch more
 batch true place kept next more empty is j full e p good =
     lock_batch (lock_of place kept) (lock_of 0 empty) more
-    (λ (bits : List Bool) (h : Holds (lock_of place kept) bits).
+    (λ (bits : List Bool) (h : LockHolds (lock_of place kept) bits).
     rw e (takes_batch (lock_of place kept) bits next more record { holds = h; fits = j.fits; kept-is = j.next-is } full p good))
 batch false place kept next more empty is j full e p good = cc
 
 pub lost : (locked : Bool) (place : ℕ) (kept next more empty : List Bool) → locked ≡ true → Joined kept next more → 32 ≤ length next → empty ≡ []
-    → 16 ≤ place → is_sync (number next) ≡ false → Feeds (front_of locked place kept) (Hunt empty) Lost more
+    → 16 ≤ place → is_sync (number next) ≡ false → Feeds (front_end_of locked place kept) (Hunt empty) Lost more
 lost true place kept next more empty is j full e p bad =
     lock_lost (lock_of place kept) empty more
-    (λ (bits : List Bool) (h : Holds (lock_of place kept) bits).
+    (λ (bits : List Bool) (h : LockHolds (lock_of place kept) bits).
     let all = loses (lock_of place kept) bits next more record { holds = h; fits = j.fits; kept-is = j.next-is } full p bad in
     (subst (λ (xs : List Bool). Hunts xs []) (sym e) hunts_nothing, all.0, all.1))
 lost false place kept next more empty is j full e p bad = cc
@@ -118,7 +118,7 @@ pub finds_full : (kept next : List Bool) (b : Bool) → next ≡ last_32 (kept +
 finds_full kept next b e full good bits h = finds next kept bits b record { kept-is = e; was-is = h.last; none = h.none } full good
 
 pub still_short : (locked : Bool) (place : ℕ) (kept next : List Bool) (b : Bool) → next ≡ last_32 (kept ++ b ∷ []) → (locked ≡ true → length kept < 32) → length next < 32
-    → Feeds (front_of locked place kept) (front_of locked place next) Still (b ∷ [])
+    → Feeds (front_end_of locked place kept) (front_end_of locked place next) Still (b ∷ [])
 still_short true place kept next b e short s = still_locked true place kept next (b ∷ []) refl (joined_one kept next b (short refl) e) s
 still_short false place kept next b e short s = still_hunting false place kept next (b ∷ []) refl (hunts_short kept next b e s)
 

@@ -1,8 +1,8 @@
 -- Further bits to a front end: each event.
 use Rattle.std.proofs.Common.{◌≡◌, ℕ, ◌<◌, ◌%◌, Bool, List, [], ◌∷◌, ◌++◌, length, Option, Some, None, refl, sym, ◌∙◌, ap, append_assoc, append-nil}
-use Rattle.receiver.specs.Stretches.{first_words, words_of}
-use Rattle.receiver.specs.Locks.{Lock, Hunts, Holds}
-use Rattle.receiver.specs.Fronts.{FrontEnd, Hunt, Locking, HuntsAt, LocksAt, IsAt}
+use Rattle.receiver.specs.Stretches.{first_words, words_of_bits}
+use Rattle.receiver.specs.Locks.{Lock, Hunts, LockHolds}
+use Rattle.receiver.specs.Fronts.{FrontEnd, Hunt, Locking, HuntsAt, LocksAt, FrontIsAt}
 use Rattle.receiver.specs.declared.front.HuntStep.TheVariants.{Still as HuntStill, Found}
 use Rattle.receiver.specs.declared.front.LockStep.TheVariants.{Still as LockStill, Slot as LockSlot, Batch as LockBatch, Lost as LockLost}
 use Rattle.receiver.specs.declared.front.FrontEvent.{FrontEvent}
@@ -27,11 +27,11 @@ Moves Lost before words before_after words_after = (lock_words : List ℕ) × (w
 pub record GoesOn (front : FrontEnd) (event : FrontEvent) (before : List (List ℕ)) (words : Option (List ℕ)) (bits : List Bool) : Type 0 where
   pub before_after : List (List ℕ)
   pub words_after : Option (List ℕ)
-  pub at : IsAt front bits before_after words_after
+  pub at : FrontIsAt front bits before_after words_after
   pub moves : Moves event before words before_after words_after
 
 pub hunt_still : (h k : List Bool) (more : List Bool) → ((bits : List Bool) → Hunts h bits → HuntGoesOn (HuntStill k) (bits ++ more))
-    → (bits : List Bool) (before : List (List ℕ)) (words : Option (List ℕ)) → IsAt (Hunt h) bits before words → GoesOn (Hunt k) Still before words (bits ++ more)
+    → (bits : List Bool) (before : List (List ℕ)) (words : Option (List ℕ)) → FrontIsAt (Hunt h) bits before words → GoesOn (Hunt k) Still before words (bits ++ more)
 hunt_still h k more step bits before words at =
     let a = at.0 in
     let now : HuntsAt k (bits ++ more) before = record {
@@ -48,7 +48,7 @@ begins_after None h = refl
 begins_after (Some ws) h = cc
 
 pub hunt_found : (h : List Bool) (l : Lock) (more : List Bool) → ((bits : List Bool) → Hunts h bits → HuntGoesOn (Found l) (bits ++ more))
-    → (bits : List Bool) (before : List (List ℕ)) (words : Option (List ℕ)) → IsAt (Hunt h) bits before words → GoesOn (Locking l) Batch before words (bits ++ more)
+    → (bits : List Bool) (before : List (List ℕ)) (words : Option (List ℕ)) → FrontIsAt (Hunt h) bits before words → GoesOn (Locking l) Batch before words (bits ++ more)
 unfolding first_words
 hunt_found h l more step bits before words at =
     let a = at.0 in
@@ -67,7 +67,7 @@ hunt_found h l more step bits before words at =
 
 -- a lock over a longer rest
 further : (l m : Lock) (more : List Bool) (bits : List Bool) (before : List (List ℕ)) (words after : List ℕ) → (a : LocksAt l bits before words)
-    → Holds m (a.rest ++ more) → after ≡ words_of (a.rest ++ more) → LocksAt m (bits ++ more) before after
+    → LockHolds m (a.rest ++ more) → after ≡ words_of_bits (a.rest ++ more) → LocksAt m (bits ++ more) before after
 further l m more bits before words after a holds is = record {
   past = a.past;
   window = a.window;
@@ -79,8 +79,8 @@ further l m more bits before words after a holds is = record {
   words-is = is;
 }
 
-pub lock_still : (l m : Lock) (more : List Bool) → ((bits : List Bool) → Holds l bits → LockGoesOn (LockStill m) bits (bits ++ more))
-    → (bits : List Bool) (before : List (List ℕ)) (words : Option (List ℕ)) → IsAt (Locking l) bits before words → GoesOn (Locking m) Still before words (bits ++ more)
+pub lock_still : (l m : Lock) (more : List Bool) → ((bits : List Bool) → LockHolds l bits → LockGoesOn (LockStill m) bits (bits ++ more))
+    → (bits : List Bool) (before : List (List ℕ)) (words : Option (List ℕ)) → FrontIsAt (Locking l) bits before words → GoesOn (Locking m) Still before words (bits ++ more)
 lock_still l m more step bits before words at =
     let a = at.1 in
     let s = step a.rest a.holds in
@@ -91,8 +91,8 @@ batch_after : (words : Option (List ℕ)) (ws : List ℕ) (w : ℕ) → words �
 batch_after None ws w h p = cc
 batch_after (Some vs) ws w h p = let e : vs ≡ ws = cc in (w, ap (λ (xs : List ℕ). Some (xs ++ w ∷ [])) (sym e), ap (λ (xs : List ℕ). length xs % 17) e ∙ p)
 
-pub lock_batch : (l m : Lock) (more : List Bool) → ((bits : List Bool) → Holds l bits → LockGoesOn (LockBatch m) bits (bits ++ more))
-    → (bits : List Bool) (before : List (List ℕ)) (words : Option (List ℕ)) → IsAt (Locking l) bits before words → GoesOn (Locking m) Batch before words (bits ++ more)
+pub lock_batch : (l m : Lock) (more : List Bool) → ((bits : List Bool) → LockHolds l bits → LockGoesOn (LockBatch m) bits (bits ++ more))
+    → (bits : List Bool) (before : List (List ℕ)) (words : Option (List ℕ)) → FrontIsAt (Locking l) bits before words → GoesOn (Locking m) Batch before words (bits ++ more)
 lock_batch l m more step bits before words at =
     let a = at.1 in
     let s = step a.rest a.holds in
@@ -104,8 +104,8 @@ lock_batch l m more step bits before words at =
       moves = (refl, batch_after words at.0 s.1 at.2 (ap (λ (xs : List ℕ). length xs % 17) a.words-is ∙ s.3));
     }
 
-pub lock_slot : (l m : Lock) (place w : ℕ) (more : List Bool) → ((bits : List Bool) → Holds l bits → LockGoesOn (LockSlot m place w) bits (bits ++ more))
-    → (bits : List Bool) (before : List (List ℕ)) (words : Option (List ℕ)) → IsAt (Locking l) bits before words → GoesOn (Locking m) (Slot place w) before words (bits ++ more)
+pub lock_slot : (l m : Lock) (place w : ℕ) (more : List Bool) → ((bits : List Bool) → LockHolds l bits → LockGoesOn (LockSlot m place w) bits (bits ++ more))
+    → (bits : List Bool) (before : List (List ℕ)) (words : Option (List ℕ)) → FrontIsAt (Locking l) bits before words → GoesOn (Locking m) (Slot place w) before words (bits ++ more)
 lock_slot l m place w more step bits before words at =
     let a = at.1 in
     let s = step a.rest a.holds in
@@ -117,8 +117,8 @@ lock_slot l m place w more step bits before words at =
       moves = (refl, at.0, at.2, refl, ap (λ (xs : List ℕ). length xs % 17) a.words-is ∙ s.2, s.3);
     }
 
-pub lock_lost : (l : Lock) (h : List Bool) (more : List Bool) → ((bits : List Bool) → Holds l bits → LockGoesOn (LockLost h) bits (bits ++ more))
-    → (bits : List Bool) (before : List (List ℕ)) (words : Option (List ℕ)) → IsAt (Locking l) bits before words → GoesOn (Hunt h) Lost before words (bits ++ more)
+pub lock_lost : (l : Lock) (h : List Bool) (more : List Bool) → ((bits : List Bool) → LockHolds l bits → LockGoesOn (LockLost h) bits (bits ++ more))
+    → (bits : List Bool) (before : List (List ℕ)) (words : Option (List ℕ)) → FrontIsAt (Locking l) bits before words → GoesOn (Hunt h) Lost before words (bits ++ more)
 lock_lost l h more step bits before words at =
     let a = at.1 in
     let s = step a.rest a.holds in

@@ -1,8 +1,8 @@
 -- The stretches of the bits that a front end was fed.
 use Rattle.std.proofs.Common.{◌≡◌, ℕ, Bool, List, [], ◌∷◌, ◌++◌, Option, Some, None, refl, sym, ◌∙◌, ap, ap₂, append_assoc, append-nil}
-use Rattle.receiver.specs.Stretches.{words_of, held_words, after_loss, later_with, stretches_with, stretches}
+use Rattle.receiver.specs.Stretches.{words_of_bits, held_words, after_loss, later_with, stretches_with, stretches}
 use Rattle.receiver.specs.Locks.{Lock, Hunts}
-use Rattle.receiver.specs.Fronts.{FrontEnd, Hunt, Locking, IsPast, HuntsAt, LocksAt, IsAt, FrontStandsFor, HasUnderWay}
+use Rattle.receiver.specs.Fronts.{FrontEnd, Hunt, Locking, IsPast, HuntsAt, LocksAt, FrontIsAt, FrontStandsFor, HasUnderWay}
 use Rattle.receiver.proofs.Locks.{not_lost, held_from-whole}
 use Rattle.receiver.proofs.Stretches.{stretches-is, after_sync-append, after_loss-append}
 
@@ -18,14 +18,14 @@ hunt_stretches h bits before a =
 
 lock_stretches : (l : Lock) (bits : List Bool) (before : List (List ℕ)) (words : List ℕ) → LocksAt l bits before words → stretches bits ≡ before ++ words ∷ []
 lock_stretches l bits before words a =
-    let w : held_words a.rest ≡ words = held_from-whole 0 (words_of a.rest) (not_lost a.rest a.holds.held) ∙ sym a.words-is in
+    let w : held_words a.rest ≡ words = held_from-whole 0 (words_of_bits a.rest) (not_lost a.rest a.holds.held) ∙ sym a.words-is in
     ap stretches a.whole ∙ a.earlier.all (a.window ++ a.rest)
     ∙ ap (λ (xs : List (List ℕ)). before ++ xs)
     (stretches-is (a.window ++ a.rest) ∙ ap (stretches_with stretches) (after_sync-append a.window a.rest [] a.found)
     ∙ ap₂ (λ (s : List ℕ) (o : Option (List Bool)). s ∷ later_with stretches o) w a.holds.held)
 
 -- the stretches of the bits that a front end was fed
-pub front_stretches : (front : FrontEnd) (bits : List Bool) (before : List (List ℕ)) (words : Option (List ℕ)) → IsAt front bits before words → stretches bits ≡ so_far before words
+pub front_stretches : (front : FrontEnd) (bits : List Bool) (before : List (List ℕ)) (words : Option (List ℕ)) → FrontIsAt front bits before words → stretches bits ≡ so_far before words
 front_stretches (Hunt hunting) bits before words at = hunt_stretches hunting bits before at.0 ∙ ap (so_far before) (sym at.1)
 front_stretches (Locking locked) bits before words at = lock_stretches locked bits before at.0 at.1 ∙ ap (so_far before) (sym at.2)
 
@@ -50,7 +50,7 @@ lost_is_past l bits before words more a lost is = record {
     regroup p w r x y = simp append_assoc
 
 -- a hunt that was fed no bit
-pub starts_at : (hunting : List Bool) → Hunts hunting [] → IsAt (Hunt hunting) [] [] None
+pub starts_at : (hunting : List Bool) → Hunts hunting [] → FrontIsAt (Hunt hunting) [] [] None
 starts_at hunting h = (
   record {
     past = [];

@@ -9,8 +9,8 @@ use Rattle.wires.proofs.Fronts.{front_append, front_behind, front_then, grows_by
 use Rattle.receiver.specs.Growing.{EntriesGrow, PagesGrow, ShownGrow}
 use Rattle.receiver.specs.Heard.{HeardPage, heard, pages_from, stretch_pages, with_text}
 use Rattle.receiver.specs.Shown.{shown, shown_page}
-use Rattle.receiver.specs.Slots.{Batch, Entry, entries_from, slots_of, stretch_entries}
-use Rattle.receiver.specs.Stretches.{after_loss, after_sync, held_from, held_with, held_words, is_sync, is_sync_place, later_with, loss_from, loss_with, stretches, stretches_with, words_of}
+use Rattle.receiver.specs.Slots.{Batch, TableEntry, entries_from, stretch_slots, stretch_entries}
+use Rattle.receiver.specs.Stretches.{after_loss, after_sync, held_from, held_with, held_words, is_sync, is_sync_place, later_with, loss_from, loss_with, stretches, stretches_with, words_of_bits}
 use Rattle.receiver.proofs.Hunts.{short_finds}
 use Rattle.receiver.proofs.Locks.{held_from-whole, not_lost}
 use Rattle.receiver.proofs.Pages.{pages_from-push}
@@ -41,8 +41,8 @@ held_words-front : (bits more : List Bool) → after_loss bits ≡ None → IsFr
 held_words-front bits more none =
     let l = not_lost bits none in
     let w = words_of-append bits more in
-    let r : IsFront (words_of bits) (held_from 0 (words_of bits ++ w.0)) = held_front 0 (words_of bits) w.0 l in
-    record { rest = r.rest; is = ap (held_from 0) w.1 ∙ (r.is ∙ ap (λ (zs : List ℕ). zs ++ r.rest) (sym (held_from-whole 0 (words_of bits) l))) }
+    let r : IsFront (words_of_bits bits) (held_from 0 (words_of_bits bits ++ w.0)) = held_front 0 (words_of_bits bits) w.0 l in
+    record { rest = r.rest; is = ap (held_from 0) w.1 ∙ (r.is ∙ ap (λ (zs : List ℕ). zs ++ r.rest) (sym (held_from-whole 0 (words_of_bits bits) l))) }
 
 -- ---- the stretches
 
@@ -87,19 +87,19 @@ stretches-grow f g (suc n) bits more le = elim (option_cases (after_sync bits)) 
 
 -- ---- pages and entries of a stretch
 
-slots_of-grow : Grows slots_of
-slots_of-grow = grows_by_one slots_of (λ ws w. record { rest = _; is = slots_from-push 0 ws w })
+slots_of-grow : Grows stretch_slots
+slots_of-grow = grows_by_one stretch_slots (λ ws w. record { rest = _; is = slots_from-push 0 ws w })
 
 stretch_pages-grow : (listens : ℕ → Bool) → Grows (stretch_pages listens)
 stretch_pages-grow listens xs ys =
     let s = slots_of-grow xs ys in
     subst (λ (zs : List ℕ). IsFront (stretch_pages listens xs) (pages_from listens 0 zs)) (sym s.is)
-    (grows_by_one (pages_from listens 0) (λ ws w. record { rest = _; is = pages_from-push listens 0 ws w }) (slots_of xs) s.rest)
+    (grows_by_one (pages_from listens 0) (λ ws w. record { rest = _; is = pages_from-push listens 0 ws w }) (stretch_slots xs) s.rest)
 
 stretch_entries-grow : Grows stretch_entries
 stretch_entries-grow xs ys =
     let h : IsFront (entries_from 0 xs) (entries_from 0 (xs ++ ys)) = grows_by_one (entries_from 0) (λ ws w. record { rest = _; is = entries_from-push 0 ws w }) xs ys in
-    record { rest = h.rest; is = ap (λ (es : List Entry). Batch ∷ es) h.is }
+    record { rest = h.rest; is = ap (λ (es : List TableEntry). Batch ∷ es) h.is }
 
 -- ---- what is heard
 

@@ -5,13 +5,13 @@ use Rattle.codeword.specs.declared.kinds.WordKind.{WordKind}
 use Rattle.codeword.specs.declared.kinds.WordKind.TheVariants.{Address, Message}
 use Rattle.codeword.specs.Kinds.{kind_of}
 use Rattle.receiver.specs.Stretches.{is_sync_place}
-use Rattle.receiver.specs.Slots.{Entry, Batch as BatchEntry, entry_with, slots_from, slots_of, entries_from, stretch_entries}
+use Rattle.receiver.specs.Slots.{TableEntry, Batch as BatchEntry, entry_with, slots_from, stretch_slots, entries_from, stretch_entries}
 use Rattle.receiver.specs.Heard.{HeardPage, pages_from, stretch_pages}
 use Rattle.receiver.specs.UnderWay.{open_from, open_if, open_after, completed}
-use Rattle.receiver.specs.Fronts.{FrontEnd, IsAt, FrontStandsFor, HasUnderWay, page_under_way}
+use Rattle.receiver.specs.Fronts.{FrontEnd, FrontIsAt, FrontStandsFor, HasUnderWay, page_under_way}
 use Rattle.receiver.specs.declared.front.FrontEvent.{FrontEvent}
 use Rattle.receiver.specs.declared.front.FrontEvent.TheVariants.{Still, Batch, Slot, Lost}
-use Rattle.receiver.specs.FrontSteps.{entry_of, page_after, completed_by, slots_by, Shows, Hears}
+use Rattle.receiver.specs.FrontSteps.{table_entry_of, page_after, completed_by, slots_by, Shows, HearsPage}
 use Rattle.receiver.proofs.Slots.{slots_of-push, entries_from-push, slot_place}
 use Rattle.receiver.proofs.Pages.{pages_from-push, open_from-push}
 use Rattle.receiver.proofs.Fronts.{so_far, front_stretches}
@@ -66,12 +66,12 @@ at_slot words place h p = ne_eqb (length words % 17) 16 (λ e. omega arith)
 entry_more : (words : List ℕ) (word : ℕ) (at : Bool) (place : ℕ) → is_sync_place (length words) ≡ at → length words % 17 ≡ place
     → stretch_entries (words ++ word ∷ []) ≡ stretch_entries words ++ entry_with at place word ∷ []
 entry_more words word at place h p =
-    ap (λ (xs : List Entry). BatchEntry ∷ xs)
+    ap (λ (xs : List TableEntry). BatchEntry ∷ xs)
     (entries_from-push 0 words word
     ∙ ap (λ (n : ℕ). entries_from 0 words ++ entry_with (is_sync_place n) (n % 17) word ∷ []) (zero-add (length words))
     ∙ ap₂ (λ (x : Bool) (y : ℕ). entries_from 0 words ++ entry_with x y word ∷ []) h p)
 
-adds_entry : (event : FrontEvent) (words : Option (List ℕ)) → Adds stretch_entries event words (entry_of event)
+adds_entry : (event : FrontEvent) (words : Option (List ℕ)) → Adds stretch_entries event words (table_entry_of event)
 unfolding entries_from
 adds_entry Still words = refl
 adds_entry Batch None = refl
@@ -87,7 +87,7 @@ slot_of Batch = []
 slot_of (Slot place word) = word ∷ []
 slot_of Lost = []
 
-adds_slot : (event : FrontEvent) (words : Option (List ℕ)) → Adds slots_of event words (slot_of event)
+adds_slot : (event : FrontEvent) (words : Option (List ℕ)) → Adds stretch_slots event words (slot_of event)
 unfolding slots_from
 adds_slot Still words = refl
 adds_slot Batch None = refl
@@ -109,9 +109,9 @@ unfolding slots_from pages_from
 adds_page listens page Still words h = refl
 adds_page listens page Batch None h = refl
 adds_page listens page Batch (Some words) h = λ word p.
-    ap (pages_from listens 0) (slots_of-push words word true (at_sync words p) ∙ append-nil (slots_of words)) ∙ sym (append-nil (stretch_pages listens words))
+    ap (pages_from listens 0) (slots_of-push words word true (at_sync words p) ∙ append-nil (stretch_slots words)) ∙ sym (append-nil (stretch_pages listens words))
 adds_page listens page (Slot place word) words h = λ lock_words is p q.
-    ap (pages_from listens 0) (slots_of-push lock_words word false (at_slot lock_words place p q)) ∙ pages_from-push listens 0 (slots_of lock_words) word
+    ap (pages_from listens 0) (slots_of-push lock_words word false (at_slot lock_words place p q)) ∙ pages_from-push listens 0 (stretch_slots lock_words) word
     ∙ ap (λ (o : Option HeardPage). stretch_pages listens lock_words ++ completed o (kind_of word)) (sym (h ∙ ap (page_under_way listens) is))
 adds_page listens page Lost words h = refl
 
@@ -127,14 +127,14 @@ begun : (listens : ℕ → Bool) (page : Option HeardPage) (words words_after : 
 unfolding slots_from open_from
 begun listens page None after h b = h ∙ ap (page_under_way listens) (sym b)
 begun listens page (Some words) after h b =
-    h ∙ ap (open_from listens 0) (sym (slots_of-push words b.0 true (at_sync words b.2) ∙ append-nil (slots_of words))) ∙ ap (page_under_way listens) (sym b.1)
+    h ∙ ap (open_from listens 0) (sym (slots_of-push words b.0 true (at_sync words b.2) ∙ append-nil (stretch_slots words))) ∙ ap (page_under_way listens) (sym b.1)
 
 moves_page : (listens : ℕ → Bool) (page : Option HeardPage) (event : FrontEvent) (before : List (List ℕ)) (words : Option (List ℕ)) (before_after : List (List ℕ)) (words_after : Option (List ℕ))
     → Moves event before words before_after words_after → page ≡ page_under_way listens words → page_after listens page event ≡ page_under_way listens words_after
 moves_page listens page Still before words b2 w2 m h = h ∙ ap (page_under_way listens) (sym m.1)
 moves_page listens page Batch before words b2 w2 m h = begun listens page words w2 h m.1
 moves_page listens page (Slot place word) before words b2 w2 m h =
-    let slots = slots_of m.1 in
+    let slots = stretch_slots m.1 in
     let place16 : (0 + length slots) % 16 ≡ place % 16 =
     ap (λ (n : ℕ). n % 16) (zero-add (length slots)) ∙ slot_place m.1 (let p = m.4 in let q = m.5 in omega arith) ∙ (let p = m.4 in let q = m.5 in omega arith) in
     ap (λ (o : Option HeardPage). open_after listens place o (kind_of word)) (h ∙ ap (page_under_way listens) m.2)
@@ -147,7 +147,7 @@ moves_page listens page Lost before words b2 w2 m h = ap (page_under_way listens
 -- ---- each event
 
 abbrev pub AlwaysGoesOn : FrontEnd → FrontEnd → FrontEvent → List Bool → List Bool → Type 0
-AlwaysGoesOn front after event old bits = (before : List (List ℕ)) (words : Option (List ℕ)) → IsAt front old before words → GoesOn after event before words bits
+AlwaysGoesOn front after event old bits = (before : List (List ℕ)) (words : Option (List ℕ)) → FrontIsAt front old before words → GoesOn after event before words bits
 
 pub shows : (front after : FrontEnd) (event : FrontEvent) (old bits : List Bool) → AlwaysGoesOn front after event old bits → FrontStandsFor front old → Shows after event old bits
 shows front after event old bits goes s =
@@ -156,12 +156,12 @@ shows front after event old bits goes s =
       stands = record { before = g.before_after; words = g.words_after; at = g.at };
       table =
           ap (flat_map stretch_entries) (front_stretches after bits g.before_after g.words_after g.at)
-          ∙ moves_add stretch_entries event s.before s.words g.before_after g.words_after (entry_of event) g.moves (adds_entry event s.words)
-          ∙ ap (λ (xs : List (List ℕ)). flat_map stretch_entries xs ++ entry_of event) (sym (front_stretches front old s.before s.words s.at));
+          ∙ moves_add stretch_entries event s.before s.words g.before_after g.words_after (table_entry_of event) g.moves (adds_entry event s.words)
+          ∙ ap (λ (xs : List (List ℕ)). flat_map stretch_entries xs ++ table_entry_of event) (sym (front_stretches front old s.before s.words s.at));
     }
 
 pub hears : (front after : FrontEnd) (event : FrontEvent) (old bits : List Bool) → AlwaysGoesOn front after event old bits
-    → (listens : ℕ → Bool) (page : Option HeardPage) → HasUnderWay listens front page old → Hears listens page after event old bits
+    → (listens : ℕ → Bool) (page : Option HeardPage) → HasUnderWay listens front page old → HearsPage listens page after event old bits
 hears front after event old bits goes listens page s =
     let g = goes s.before s.words s.at in
     let now = front_stretches after bits g.before_after g.words_after g.at in
@@ -178,8 +178,8 @@ hears front after event old bits goes listens page s =
           ∙ moves_add (stretch_pages listens) event s.before s.words g.before_after g.words_after (completed_by page event) g.moves (adds_page listens page event s.words s.page-is)
           ∙ ap (λ (xs : List (List ℕ)). flat_map (stretch_pages listens) xs ++ completed_by page event) was;
       slots =
-          ap (λ (xs : List (List ℕ)). length (flat_map slots_of xs)) now
-          ∙ ap length (moves_add slots_of event s.before s.words g.before_after g.words_after (slot_of event) g.moves (adds_slot event s.words))
-          ∙ length-append (flat_map slots_of (so_far s.before s.words)) (slot_of event)
-          ∙ ap₂ (λ (xs : List (List ℕ)) (n : ℕ). length (flat_map slots_of xs) + n) was (length-slot_of event);
+          ap (λ (xs : List (List ℕ)). length (flat_map stretch_slots xs)) now
+          ∙ ap length (moves_add stretch_slots event s.before s.words g.before_after g.words_after (slot_of event) g.moves (adds_slot event s.words))
+          ∙ length-append (flat_map stretch_slots (so_far s.before s.words)) (slot_of event)
+          ∙ ap₂ (λ (xs : List (List ℕ)) (n : ℕ). length (flat_map stretch_slots xs) + n) was (length-slot_of event);
     }

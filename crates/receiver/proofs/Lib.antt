@@ -5,8 +5,10 @@ pub mod Fronts
 pub mod Growing
 pub mod Heard
 pub mod Hunts
+pub mod Last
 pub mod Listens
 pub mod Locks
+pub mod Meets
 pub mod Numbers
 pub mod Pages
 pub mod Pieces

@@ -4,8 +4,8 @@ use Rattle.std.proofs.lemmas.List.{drop-append-le, take-append-le, take_all, dro
 use Rattle.bits.specs.Bits.{number}
 use Rattle.bits.proofs.Numbers.{number-lt}
 use Rattle.receiver.specs.Registers.{last_32}
-use Rattle.receiver.specs.Stretches.{first_words, words_of, is_sync_place, is_sync, held_with, held_from, held_words, loss_with, loss_from, after_loss}
-use Rattle.receiver.specs.Locks.{Lock, lock_of, Holds}
+use Rattle.receiver.specs.Stretches.{first_words, words_of_bits, is_sync_place, is_sync, held_with, held_from, held_words, loss_with, loss_from, after_loss}
+use Rattle.receiver.specs.Locks.{Lock, lock_of, LockHolds}
 use Rattle.receiver.proofs.Hunts.{length-push}
 
 -- ---- the words of a longer list
@@ -99,14 +99,14 @@ loss_from-push k (v ∷ ws) w h =
 
 -- the lock over these bits takes more, not beyond the end of the word under way, and keeps these of that word
 pub record Taken (lock : Lock) (bits kept more : List Bool) : Type 0 where
-  pub holds : Holds lock bits
+  pub holds : LockHolds lock bits
   pub fits : length lock.partial + length more ≤ 32
   pub kept-is : kept ≡ lock.partial ++ more
 
-pub not_lost : (bits : List Bool) → after_loss bits ≡ None → loss_from 0 (words_of bits) ≡ None
-not_lost bits h = none_inside (λ n. drop (32 * n) bits) (loss_from 0 (words_of bits)) h
+pub not_lost : (bits : List Bool) → after_loss bits ≡ None → loss_from 0 (words_of_bits bits) ≡ None
+not_lost bits h = none_inside (λ n. drop (32 * n) bits) (loss_from 0 (words_of_bits bits)) h
 
-pub partial-length : (lock : Lock) (bits : List Bool) → Holds lock bits → length lock.partial ≡ length bits % 32
+pub partial-length : (lock : Lock) (bits : List Bool) → LockHolds lock bits → length lock.partial ≡ length bits % 32
 partial-length lock bits h =
     let d = length-drop (32 * (length bits / 32)) bits in
     let e = ap length h.partial in
@@ -126,14 +126,14 @@ taken_length lock bits kept more t =
     (omega arith, omega arith)
 
 -- one bit fits where the word under way isn't whole
-pub taken_one : (lock : Lock) (bits kept : List Bool) (b : Bool) → Holds lock bits → length lock.partial < 32 → kept ≡ last_32 (lock.partial ++ b ∷ []) → Taken lock bits kept (b ∷ [])
+pub taken_one : (lock : Lock) (bits kept : List Bool) (b : Bool) → LockHolds lock bits → length lock.partial < 32 → kept ≡ last_32 (lock.partial ++ b ∷ []) → Taken lock bits kept (b ∷ [])
 taken_one lock bits kept b h s e =
     let l = length-push lock.partial b in
     let z : length (lock.partial ++ b ∷ []) - 32 ≡ 0 = omega arith in
     record { holds = h; fits = omega arith; kept-is = e ∙ ap (λ (n : ℕ). drop n (lock.partial ++ b ∷ [])) z }
 
 -- no word is whole with it
-pub words_still : (lock : Lock) (bits kept more : List Bool) → Taken lock bits kept more → length kept < 32 → words_of (bits ++ more) ≡ words_of bits
+pub words_still : (lock : Lock) (bits kept more : List Bool) → Taken lock bits kept more → length kept < 32 → words_of_bits (bits ++ more) ≡ words_of_bits bits
 words_still lock bits kept more t h =
     let n = taken_length lock bits kept more t in
     let l = length-append bits more in
@@ -141,7 +141,7 @@ words_still lock bits kept more t h =
     ap (λ (k : ℕ). first_words k (bits ++ more)) e ∙ first_words-append (length bits / 32) bits more (omega arith)
 
 -- one more word
-pub words_more : (lock : Lock) (bits kept more : List Bool) → Taken lock bits kept more → 32 ≤ length kept → words_of (bits ++ more) ≡ words_of bits ++ number kept ∷ []
+pub words_more : (lock : Lock) (bits kept more : List Bool) → Taken lock bits kept more → 32 ≤ length kept → words_of_bits (bits ++ more) ≡ words_of_bits bits ++ number kept ∷ []
 words_more lock bits kept more t h =
     let n = taken_length lock bits kept more t in
     let l = length-append bits more in
@@ -151,11 +151,11 @@ words_more lock bits kept more t h =
     (first_words-append (length bits / 32) bits more (omega arith))
     (ap (take 32) (sym (taken_kept lock bits kept more t)) ∙ take_all 32 kept (omega arith))
 
-pub place_words : (lock : Lock) (bits : List Bool) → Holds lock bits → lock.place ≡ length (words_of bits) % 17
+pub place_words : (lock : Lock) (bits : List Bool) → LockHolds lock bits → lock.place ≡ length (words_of_bits bits) % 17
 place_words lock bits h = h.place ∙ ap (λ (n : ℕ). n % 17) (sym (length-first_words (length bits / 32) bits))
 
 pub lock_still : (lock : Lock) (bits kept more : List Bool) → Taken lock bits kept more → length kept < 32
-    → Holds (lock_of lock.place kept) (bits ++ more) × (words_of (bits ++ more) ≡ words_of bits)
+    → LockHolds (lock_of lock.place kept) (bits ++ more) × (words_of_bits (bits ++ more) ≡ words_of_bits bits)
 lock_still lock bits kept more t h =
     let n = taken_length lock bits kept more t in
     let l = length-append bits more in
@@ -180,12 +180,12 @@ nothing_left lock bits kept more t h =
 
 -- the word that is whole now isn't one that loses the lock
 pub lock_goes_on : (lock : Lock) (bits kept more : List Bool) (place : ℕ) → Taken lock bits kept more → 32 ≤ length kept
-    → (is_sync_place (length (words_of bits)) ≡ false) ⊎ (is_sync (number kept) ≡ true)
+    → (is_sync_place (length (words_of_bits bits)) ≡ false) ⊎ (is_sync (number kept) ≡ true)
     → place ≡ suc (length bits / 32) % 17
-    → Holds (lock_of place []) (bits ++ more)
+    → LockHolds (lock_of place []) (bits ++ more)
 lock_goes_on lock bits kept more place t h ok p =
     let left = nothing_left lock bits kept more t h in
-    let ws = words_of bits in
+    let ws = words_of_bits bits in
     record {
       place = p ∙ ap (λ (k : ℕ). k % 17) (sym left.0);
       partial = sym left.1;
@@ -195,11 +195,11 @@ lock_goes_on lock bits kept more place t h ok p =
           ∙ ap (option_map (λ m. length ws + m)) (loss_keeps (is_sync_place (length ws)) (is_sync (number kept)) None ok));
     }
 
-at_slot : (lock : Lock) (bits : List Bool) → Holds lock bits → lock.place < 16 → is_sync_place (length (words_of bits)) ≡ false
-at_slot lock bits h p = let q = place_words lock bits h in ne_eqb (length (words_of bits) % 17) 16 (λ e. omega arith)
+at_slot : (lock : Lock) (bits : List Bool) → LockHolds lock bits → lock.place < 16 → is_sync_place (length (words_of_bits bits)) ≡ false
+at_slot lock bits h p = let q = place_words lock bits h in ne_eqb (length (words_of_bits bits) % 17) 16 (λ e. omega arith)
 
-at_sync : (lock : Lock) (bits : List Bool) → Holds lock bits → 16 ≤ lock.place → is_sync_place (length (words_of bits)) ≡ true
-at_sync lock bits h p = let q = place_words lock bits h in eq-eqb (length (words_of bits) % 17) 16 (omega arith)
+at_sync : (lock : Lock) (bits : List Bool) → LockHolds lock bits → 16 ≤ lock.place → is_sync_place (length (words_of_bits bits)) ≡ true
+at_sync lock bits h p = let q = place_words lock bits h in eq-eqb (length (words_of_bits bits) % 17) 16 (omega arith)
 
 pub number-kept-lt : (lock : Lock) (bits kept more : List Bool) → Taken lock bits kept more → 32 ≤ length kept → number kept < 2 ^ 32
 number-kept-lt lock bits kept more t h =
@@ -209,8 +209,8 @@ number-kept-lt lock bits kept more t h =
     rw e at l
 
 pub lock_slot : (lock : Lock) (bits kept more : List Bool) → Taken lock bits kept more → 32 ≤ length kept → lock.place < 16
-    → Holds (lock_of (lock.place + 1) []) (bits ++ more) × (words_of (bits ++ more) ≡ words_of bits ++ number kept ∷ [])
-    × (length (words_of bits) % 17 ≡ lock.place) × (lock.place < 16) × (number kept < 2 ^ 32)
+    → LockHolds (lock_of (lock.place + 1) []) (bits ++ more) × (words_of_bits (bits ++ more) ≡ words_of_bits bits ++ number kept ∷ [])
+    × (length (words_of_bits bits) % 17 ≡ lock.place) × (lock.place < 16) × (number kept < 2 ^ 32)
 lock_slot lock bits kept more t h p =
     let q = t.holds.place in
     let slot = at_slot lock bits t.holds p in (
@@ -222,7 +222,7 @@ lock_slot lock bits kept more t h p =
     )
 
 pub lock_batch : (lock : Lock) (bits kept more : List Bool) → Taken lock bits kept more → 32 ≤ length kept → 16 ≤ lock.place → is_sync (number kept) ≡ true
-    → Holds (lock_of 0 []) (bits ++ more) × (word : ℕ) × (words_of (bits ++ more) ≡ words_of bits ++ word ∷ []) × (length (words_of bits) % 17 ≡ 16)
+    → LockHolds (lock_of 0 []) (bits ++ more) × (word : ℕ) × (words_of_bits (bits ++ more) ≡ words_of_bits bits ++ word ∷ []) × (length (words_of_bits bits) % 17 ≡ 16)
 lock_batch lock bits kept more t h p good =
     let q = t.holds.place in
     let r = place_words lock bits t.holds in (
@@ -233,10 +233,10 @@ lock_batch lock bits kept more t h p good =
     )
 
 pub lock_lost : (lock : Lock) (bits kept more : List Bool) → Taken lock bits kept more → 32 ≤ length kept → 16 ≤ lock.place → is_sync (number kept) ≡ false
-    → (after_loss (bits ++ more) ≡ Some []) × (held_words (bits ++ more) ≡ words_of bits)
+    → (after_loss (bits ++ more) ≡ Some []) × (held_words (bits ++ more) ≡ words_of_bits bits)
 lock_lost lock bits kept more t h p bad =
     let place = at_sync lock bits t.holds p in
-    let ws = words_of bits in
+    let ws = words_of_bits bits in
     let left = nothing_left lock bits kept more t h in
     let n : length ws + 1 ≡ length (bits ++ more) / 32 = (let e = length-first_words (length bits / 32) bits in omega (arith, left.0)) in (
       ap (option_map (λ n. drop (32 * n) (bits ++ more)))

@@ -5,7 +5,8 @@ use Rattle.codeword.specs.declared.functions.Function.{Function}
 use Rattle.codeword.specs.declared.kinds.WordKind.{WordKind}
 use Rattle.codeword.specs.declared.kinds.WordKind.TheVariants.{Address, Message}
 use Rattle.codeword.specs.Kinds.{kind_of}
-use Rattle.receiver.specs.Heard.{HeardPage, capcode_at, groups_with, groups_to_address, page_if, page_with, pages_from}
+use Rattle.codeword.specs.Capcodes.{capcode_at}
+use Rattle.receiver.specs.Heard.{HeardPage, groups_with, groups_to_address, page_if, page_with, pages_from}
 use Rattle.receiver.specs.UnderWay.{messages_with, all_groups, open_if, open_with, first_some, open_from, completed, open_after}
 
 -- ---- the groups after a word

@@ -1,8 +1,9 @@
 -- Pieces that a listener takes.
-use Rattle.std.proofs.Common.{◌≡◌, ℕ, ◌+◌, ◌<◌, Bool, List, [], ◌++◌, length, length-append, Option, Some, None, arith, refl, sym, ◌∙◌, ap, subst, append_assoc, append-nil}
+use Rattle.std.proofs.Common.{◌≡◌, ℕ, ◌+◌, ◌<◌, inl, inr, Bool, List, [], ◌++◌, length, length-append, Option, Some, None, arith, refl, sym, ◌∙◌, ap, subst, append_assoc, append-nil}
+use Rattle.std.proofs.lemmas.Bool.{cases_lt}
 use Rattle.receiver.specs.Heard.{HeardPage, heard}
 use Rattle.receiver.specs.Slots.{slots_in}
-use Rattle.receiver.specs.Listeners.{Listener, StandsFor, is_one_of, ready_pages, answer_of}
+use Rattle.receiver.specs.Listeners.{Listener, StandsFor, is_one_of, ready_pages, ready_answer}
 use Rattle.receiver.specs.declared.ready.Ready.{Ready}
 use Rattle.wires.specs.Pieces.{taken_of}
 use Rattle.wires.proofs.Pieces.{taken_is, taken_twice}
@@ -39,7 +40,7 @@ pub counts_none : (listener : Listener) (n : ℕ) (piece : List Bool) → Counts
 counts_none listener n piece bits h = ap (λ (xs : List Bool). n + slots_in xs) (sym (ap (λ (xs : List Bool). bits ++ xs) (none_taken piece) ∙ append-nil bits))
 
 -- bits in two parts
-both_parts : (bits piece left rest : List Bool) → piece ≡ taken_of piece left ++ left → left ≡ taken_of left rest ++ rest
+pub both_parts : (bits piece left rest : List Bool) → piece ≡ taken_of piece left ++ left → left ≡ taken_of left rest ++ rest
     → bits ++ taken_of piece rest ≡ (bits ++ taken_of piece left) ++ taken_of left rest
 both_parts bits piece left rest e f =
     ap (λ (xs : List Bool). bits ++ xs) (taken_twice piece left rest e f) ∙ sym (append_assoc bits (taken_of piece left) (taken_of left rest))
@@ -72,10 +73,23 @@ counts_then a b piece left rest n m k f e p q bits h =
     omega arith
 
 -- where no page is answered, none is complete
-pub none_ready : (answer : Option Ready) (ready : Option HeardPage) → answer ≡ None → answer ≡ answer_of ready → ready_pages ready ≡ []
+pub none_ready : (answer : Option Ready) (ready : Option HeardPage) → answer ≡ None → answer ≡ ready_answer ready → ready_pages ready ≡ []
 none_ready answer None e f = refl
 none_ready answer (Some page) e f = cc
 
 -- a listener took all of a piece that isn't empty, or some of it
 pub less : (piece left rest : List Bool) → piece ≡ taken_of piece left ++ left → length rest < length left → length rest < length piece
 less piece left rest e h = let n = ap length e in let l = length-append (taken_of piece left) left in omega arith
+
+-- a listener took some of a piece, where what it took last is some of what was left
+pub some_less : (piece left rest : List Bool) → piece ≡ taken_of piece left ++ left → left ≡ taken_of left rest ++ rest → (0 < length left → length rest < length left)
+    → 0 < length piece → length rest < length piece
+some_less piece left rest e f some has =
+    let n = ap length e in
+    let l = length-append (taken_of piece left) left in
+    let m = ap length f in
+    let k = length-append (taken_of left rest) rest in
+    elim (cases_lt 0 (length left)) [
+      | inl more ↦ let h = some more in omega arith
+      | inr none ↦ omega arith
+    ]

@@ -2,7 +2,7 @@
 use Rattle.std.proofs.Common.{◌≡◌, ℕ, suc, ◌+◌, ◌/◌, ◌%◌, ◌<◌, Bool, true, false, List, [], ◌∷◌, ◌++◌, length, arith, refl, sym, ◌∙◌, ap, inl, inr, add-zero, zero-add, eqb-true}
 use Rattle.std.proofs.lemmas.Bool.{cases_Bool, eqb-false}
 use Rattle.receiver.specs.Stretches.{is_sync_place}
-use Rattle.receiver.specs.Slots.{Entry, entry_with, slots_with, slots_from, slots_of, entries_from}
+use Rattle.receiver.specs.Slots.{TableEntry, entry_with, slots_with, slots_from, stretch_slots, entries_from}
 
 abbrev pub slot_if : Bool → ℕ → List ℕ
 slot_if true word = []
@@ -25,8 +25,8 @@ slots_from-push k (v ∷ ws) w =
     ∙ slots_grow (is_sync_place k) v (slots_from (suc k) ws) (slot_if (is_sync_place (suc k + length ws)) w)
     ∙ ap (λ (n : ℕ). slots_with (is_sync_place k) v (slots_from (suc k) ws) ++ slot_if (is_sync_place n) w) e
 
-pub slots_of-push : (ws : List ℕ) (w : ℕ) (at : Bool) → is_sync_place (length ws) ≡ at → slots_of (ws ++ w ∷ []) ≡ slots_of ws ++ slot_if at w
-slots_of-push ws w at h = slots_from-push 0 ws w ∙ ap (λ (p : Bool). slots_of ws ++ slot_if p w) (ap is_sync_place (zero-add (length ws)) ∙ h)
+pub slots_of-push : (ws : List ℕ) (w : ℕ) (at : Bool) → is_sync_place (length ws) ≡ at → stretch_slots (ws ++ w ∷ []) ≡ stretch_slots ws ++ slot_if at w
+slots_of-push ws w at h = slots_from-push 0 ws w ∙ ap (λ (p : Bool). stretch_slots ws ++ slot_if p w) (ap is_sync_place (zero-add (length ws)) ∙ h)
 
 pub entries_from-push : (k : ℕ) (ws : List ℕ) (w : ℕ)
     → entries_from k (ws ++ w ∷ []) ≡ entries_from k ws ++ entry_with (is_sync_place (k + length ws)) ((k + length ws) % 17) w ∷ []
@@ -34,7 +34,7 @@ unfolding entries_from
 entries_from-push k [] w = ap (λ (n : ℕ). entry_with (is_sync_place n) (n % 17) w ∷ []) (sym (add-zero k))
 entries_from-push k (v ∷ ws) w =
     let e : suc k + length ws ≡ k + suc (length ws) = omega arith in
-    ap (λ (xs : List Entry). entry_with (is_sync_place k) (k % 17) v ∷ xs)
+    ap (λ (xs : List TableEntry). entry_with (is_sync_place k) (k % 17) v ∷ xs)
     (entries_from-push (suc k) ws w ∙ ap (λ (n : ℕ). entries_from (suc k) ws ++ entry_with (is_sync_place n) (n % 17) w ∷ []) e)
 
 -- ---- the place of a slot
@@ -62,7 +62,7 @@ slots_count k [] = let e : k + 0 ≡ k = omega arith in let f : (k + 0) / 17 ≡
 slots_count k (w ∷ ws) = slots_count_step k w (slots_from (suc k) ws) (length ws) (slots_count (suc k) ws)
 
 -- the number of the next slot has its place modulo 16
-pub slot_place : (ws : List ℕ) → length ws % 17 < 16 → length (slots_of ws) % 16 ≡ length ws % 17
+pub slot_place : (ws : List ℕ) → length ws % 17 < 16 → length (stretch_slots ws) % 16 ≡ length ws % 17
 slot_place ws p =
     let c = slots_count 0 ws in
     omega arith

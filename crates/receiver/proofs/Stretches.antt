@@ -2,13 +2,13 @@
 use Rattle.std.proofs.Common.{◌≡◌, ℕ, zero, suc, ◌+◌, ◌-◌, ◌*◌, ◌/◌, ◌≤◌, Bool, true, false, List, [], ◌∷◌, ◌++◌, length, length-append, length-drop, drop, Option, Some, None, option_map, arith, refl, sym, ◌∙◌, ap, ap₂, ◌⊎◌, inl, inr, min}
 use Rattle.std.proofs.lemmas.List.{drop-append-le}
 use Rattle.std.proofs.lemmas.Bool.{cases_lt}
-use Rattle.receiver.specs.Stretches.{begins_with_sync, some_or, after_sync, first_words, words_of, is_sync_place, is_sync, held_with, held_from, held_words, loss_with, loss_from, after_loss, later_with, stretches_with, first_stretches, stretches}
+use Rattle.receiver.specs.Stretches.{begins_with_sync, value_or, after_sync, first_words, words_of_bits, is_sync_place, is_sync, held_with, held_from, held_words, loss_with, loss_from, after_loss, later_with, stretches_with, first_stretches, stretches}
 use Rattle.receiver.proofs.Hunts.{long_begins, short_finds}
 use Rattle.receiver.proofs.Locks.{first_words-append, length-first_words, first_words-split}
 
 -- ---- a sync word that was found stays where it is
 
-found_cases : (t : Bool) (x y : List Bool) (o : Option (List Bool)) → some_or t x o ≡ Some y → ((t ≡ true) × (x ≡ y)) ⊎ ((t ≡ false) × (o ≡ Some y))
+found_cases : (t : Bool) (x y : List Bool) (o : Option (List Bool)) → value_or t x o ≡ Some y → ((t ≡ true) × (x ≡ y)) ⊎ ((t ≡ false) × (o ≡ Some y))
 found_cases true x y o h = inl (refl, cc)
 found_cases false x y o h = inr (refl, h)
 
@@ -19,13 +19,13 @@ after_sync-append (b ∷ bits) more rest h = elim (found_cases (begins_with_sync
   | inl here ↦ elim (cases_lt (length (b ∷ bits)) 32) [
     | inl short ↦ (let n = short_finds (b ∷ bits) short in absurd (no_some (n_to (b ∷ bits) n h)))
     | inr long ↦
-        ap (λ (t : Bool). some_or t (drop 31 (bits ++ more)) (after_sync (bits ++ more))) (long_begins (b ∷ bits) more long ∙ here.0)
+        ap (λ (t : Bool). value_or t (drop 31 (bits ++ more)) (after_sync (bits ++ more))) (long_begins (b ∷ bits) more long ∙ here.0)
         ∙ ap (λ (xs : List Bool). Some xs) (drop-append-le 31 bits more (omega arith) ∙ ap (λ (xs : List Bool). xs ++ more) here.1)
   ]
   | inr later ↦ elim (cases_lt (length (b ∷ bits)) 32) [
     | inl short ↦ (let n = short_finds (b ∷ bits) short in absurd (no_some (n_to (b ∷ bits) n h)))
     | inr long ↦
-        ap (λ (t : Bool). some_or t (drop 31 (bits ++ more)) (after_sync (bits ++ more))) (long_begins (b ∷ bits) more long ∙ later.0)
+        ap (λ (t : Bool). value_or t (drop 31 (bits ++ more)) (after_sync (bits ++ more))) (long_begins (b ∷ bits) more long ∙ later.0)
         ∙ after_sync-append bits more rest later.1
   ]
 ]
@@ -49,7 +49,7 @@ length-after_sync (b ∷ bits) rest h = elim (cases_lt (length (b ∷ bits)) 32)
 
 -- ---- a lock that was lost stays lost there
 
-pub words_of-append : (bits more : List Bool) → (vs : List ℕ) × (words_of (bits ++ more) ≡ words_of bits ++ vs)
+pub words_of-append : (bits more : List Bool) → (vs : List ℕ) × (words_of_bits (bits ++ more) ≡ words_of_bits bits ++ vs)
 words_of-append bits more =
     let l = length-append bits more in
     let e : length (bits ++ more) / 32 ≡ length bits / 32 + (length (bits ++ more) / 32 - length bits / 32) = omega arith in
@@ -102,9 +102,9 @@ some_inside f (Some x) y h = (x, refl, cc)
 pub after_loss-append : (bits more rest : List Bool) → after_loss bits ≡ Some rest
     → (after_loss (bits ++ more) ≡ Some (rest ++ more)) × (held_words (bits ++ more) ≡ held_words bits) × (length rest ≤ length bits)
 after_loss-append bits more rest h =
-    let i = some_inside (λ n. drop (32 * n) bits) (loss_from 0 (words_of bits)) rest h in
+    let i = some_inside (λ n. drop (32 * n) bits) (loss_from 0 (words_of_bits bits)) rest h in
     let w = words_of-append bits more in
-    let a = loss_from-append 0 (words_of bits) w.0 i.0 i.1 in
+    let a = loss_from-append 0 (words_of_bits bits) w.0 i.0 i.1 in
     let l = length-first_words (length bits / 32) bits in
     let d = length-drop (32 * i.0) bits in
     let fits : 32 * i.0 ≤ length bits = omega (arith, a.2) in (

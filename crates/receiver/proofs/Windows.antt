@@ -8,8 +8,9 @@ use Rattle.bits.proofs.Lengths.{length-bits_of}
 use Rattle.bits.proofs.Metric.{dist-sym, dist-triangle, dist-behind, dist-take}
 use Rattle.bch31.proofs.Multiples.{all_below, all_below_at}
 use Rattle.codeword.specs.declared.words.TheConstants.{SYNC}
-use Rattle.receiver.specs.Stretches.{near_sync, begins_with_sync, some_or, after_sync, is_sync, held_with, held_from, loss_with, loss_from}
-use Rattle.receiver.specs.Windows.{filler, preamble_bits, FindsSyncWord, FillerEnds}
+use Rattle.receiver.specs.Stretches.{near_sync, begins_with_sync, value_or, after_sync, is_sync, held_with, held_from, loss_with, loss_from}
+use Rattle.codeword.specs.Words.{filler}
+use Rattle.receiver.specs.Windows.{preamble_bits, FindsSyncWord, FillerEnds}
 
 -- ---- the end of a preamble
 
@@ -102,7 +103,7 @@ after_sync-at_once (b ∷ word) rest l near =
     let good : begins_with_sync ((b ∷ word) ++ rest) ≡ true =
     ap₂ (λ (x y : Bool). x && y) (le-leb 32 (length ((b ∷ word) ++ rest)) (omega arith))
     (ap near_sync (take_at (b ∷ word) rest 32 l) ∙ le-leb (dist (b ∷ word) (word_bits SYNC)) 2 near) in
-    ap (λ (t : Bool). some_or t (drop 31 (word ++ rest)) (after_sync (word ++ rest))) good
+    ap (λ (t : Bool). value_or t (drop 31 (word ++ rest)) (after_sync (word ++ rest))) good
     ∙ ap (λ (xs : List Bool). Some xs) (drop_at word rest 31 (omega arith))
 
 after_sync-alternating : (k : ℕ) (word rest : List Bool) → length word ≡ 32 → dist word (word_bits SYNC) ≤ 2
@@ -110,7 +111,7 @@ after_sync-alternating : (k : ℕ) (word rest : List Bool) → length word ≡ 3
 unfolding alternating after_sync
 after_sync-alternating zero word rest l near = after_sync-at_once word rest l near
 after_sync-alternating (suc k) word rest l near =
-    ap (λ (t : Bool). some_or t (drop 31 (alternating k ++ (word ++ rest))) (after_sync (alternating k ++ (word ++ rest)))) (no_window k word rest l near)
+    ap (λ (t : Bool). value_or t (drop 31 (alternating k ++ (word ++ rest))) (after_sync (alternating k ++ (word ++ rest)))) (no_window k word rest l near)
     ∙ after_sync-alternating k word rest l near
 
 -- ---- a preamble of words

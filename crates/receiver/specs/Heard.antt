@@ -1,5 +1,6 @@
 -- The pages that are heard in a list of bits. docs/profile.md, "page heard".
-use Rattle.std.specs.Prelude.{ℕ, suc, ◌+◌, ◌*◌, ◌/◌, ◌%◌, Bool, true, false, ◌&&◌, nat_le, List, [], ◌∷◌, ◌++◌, length, Option, Some, None, option_map, flat_map}
+use Rattle.codeword.specs.Capcodes.{capcode_at}
+use Rattle.std.specs.Prelude.{ℕ, suc, Bool, true, false, ◌&&◌, nat_le, List, [], ◌∷◌, ◌++◌, length, Option, Some, None, option_map, flat_map}
 use Rattle.codeword.specs.declared.functions.Function.{Function}
 use Rattle.codeword.specs.declared.kinds.WordKind.{WordKind}
 use Rattle.codeword.specs.declared.kinds.WordKind.TheVariants.{Address, Message}
@@ -7,7 +8,7 @@ use Rattle.codeword.specs.Kinds.{kind_of}
 use Rattle.page_text.specs.Page.{Page}
 use Rattle.page_text.specs.Texts.{text_of}
 use Rattle.receiver.specs.Stretches.{stretches}
-use Rattle.receiver.specs.Slots.{slots_of}
+use Rattle.receiver.specs.Slots.{stretch_slots}
 
 -- a page heard: to which capcode, with which function, and the groups of its message words
 pub record HeardPage : Type 0 where
@@ -18,14 +19,6 @@ pub record HeardPage : Type 0 where
 -- the page with its text
 abbrev pub with_text : HeardPage → Page
 with_text page = record { capcode = page.capcode; function = page.function; text = text_of page.function page.groups }
-
--- the frame of a slot, by its number in its stretch or by its place
-abbrev pub frame_at : ℕ → ℕ
-frame_at place = place % 16 / 2
-
--- the capcode whose high bits stand in a slot
-abbrev pub capcode_at : ℕ → ℕ → ℕ
-capcode_at place high = 8 * high + frame_at place
 
 -- what the first word says, and the groups before an address word that the words behind it give
 abbrev pub groups_with : Option WordKind → Option (List ℕ) → Option (List ℕ)
@@ -60,7 +53,7 @@ pages_from listens place (w ∷ ws) = page_with listens place (kind_of w) (group
 
 -- the pages of a stretch
 abbrev pub stretch_pages : (ℕ → Bool) → List ℕ → List HeardPage
-stretch_pages listens words = pages_from listens 0 (slots_of words)
+stretch_pages listens words = pages_from listens 0 (stretch_slots words)
 
 -- the pages of all stretches to the capcodes that are listened to
 abbrev pub heard : (ℕ → Bool) → List Bool → List HeardPage

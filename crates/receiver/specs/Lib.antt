@@ -3,6 +3,7 @@ pub mod Fronts
 pub mod Gathering
 pub mod Growing
 pub mod Heard
+pub mod Last
 pub mod Listeners
 pub mod Locks
 pub mod Receivers

@@ -53,5 +53,5 @@ ready_pages None = []
 ready_pages (Some page) = page ∷ []
 
 -- the answer that names it
-abbrev pub answer_of : Option HeardPage → Option Ready
-answer_of page = option_map (λ p. record { capcode = p.capcode; function = p.function }) page
+abbrev pub ready_answer : Option HeardPage → Option Ready
+ready_answer page = option_map (λ p. record { capcode = p.capcode; function = p.function }) page

@@ -1,5 +1,6 @@
 -- What a hunt and a lock stand for.
 use Rattle.std.specs.Prelude.{◌≡◌, ℕ, ◌*◌, ◌/◌, ◌%◌, Bool, List, length, drop, None}
+use Rattle.codeword.specs.declared.batches.TheConstants.{BATCH_WORDS}
 use Rattle.receiver.specs.Registers.{last_32}
 use Rattle.receiver.specs.Stretches.{after_sync, after_loss}
 
@@ -18,7 +19,7 @@ pub record Hunts (kept bits : List Bool) : Type 0 where
   pub none : after_sync bits ≡ None
 
 -- a lock over these bits wasn't lost
-pub record Holds (lock : Lock) (bits : List Bool) : Type 0 where
-  pub place : lock.place ≡ length bits / 32 % 17
+pub record LockHolds (lock : Lock) (bits : List Bool) : Type 0 where
+  pub place : lock.place ≡ length bits / 32 % BATCH_WORDS
   pub partial : lock.partial ≡ drop (32 * (length bits / 32)) bits
   pub held : after_loss bits ≡ None

@@ -1,7 +1,8 @@
 -- What one more bit does to a hunt and to a lock.
 use Rattle.std.specs.Prelude.{◌≡◌, ℕ, ◌<◌, ◌^◌, ◌%◌, Bool, true, false, List, [], ◌∷◌, ◌++◌, length, Some}
-use Rattle.receiver.specs.Stretches.{after_sync, after_loss, held_words, words_of}
-use Rattle.receiver.specs.Locks.{Hunts, Holds}
+use Rattle.codeword.specs.declared.batches.TheConstants.{BATCH_WORDS, SLOTS}
+use Rattle.receiver.specs.Stretches.{after_sync, after_loss, held_words, words_of_bits}
+use Rattle.receiver.specs.Locks.{Hunts, LockHolds}
 use Rattle.wires.specs.Pieces.{taken_of}
 use Rattle.receiver.specs.declared.front.HuntStep.{HuntStep}
 use Rattle.receiver.specs.declared.front.HuntStep.TheVariants.{Still as HuntStill, Found}
@@ -11,7 +12,7 @@ use Rattle.receiver.specs.declared.front.LockStep.TheVariants.{Still, Slot, Batc
 -- the hunt over these bits has found nothing yet, or a sync word with the last bit
 abbrev pub HuntGoesOn : HuntStep → List Bool → Type 0
 HuntGoesOn (HuntStill hunting) bits = Hunts hunting bits
-HuntGoesOn (Found locked) bits = (after_sync bits ≡ Some []) × Holds locked []
+HuntGoesOn (Found locked) bits = (after_sync bits ≡ Some []) × LockHolds locked []
 
 -- a hunt that keeps these bits takes more, finds nothing, and keeps the last of them
 abbrev pub HuntsOn : List Bool → List Bool → List Bool → Type 0
@@ -29,19 +30,19 @@ pub record HuntsThrough (kept next piece left : List Bool) (found : Bool) : Type
 
 -- one more word is whole: this one
 abbrev pub HasOneMore : ℕ → List Bool → List Bool → Type 0
-HasOneMore word old bits = words_of bits ≡ words_of old ++ word ∷ []
+HasOneMore word old bits = words_of_bits bits ≡ words_of_bits old ++ word ∷ []
 
 -- The lock over `old` went on by one bit: no word is whole with it, or it completes the word of a slot, a word at a sync place that
 -- is near the sync word, or one that isn't, with which the lock is lost.
 abbrev pub LockGoesOn : LockStep → List Bool → List Bool → Type 0
-LockGoesOn (Still locked) old bits = Holds locked bits × (words_of bits ≡ words_of old)
-LockGoesOn (Slot locked place word) old bits = Holds locked bits × HasOneMore word old bits × (length (words_of old) % 17 ≡ place) × (place < 16) × (word < 2 ^ 32)
-LockGoesOn (Batch locked) old bits = Holds locked bits × (word : ℕ) × HasOneMore word old bits × (length (words_of old) % 17 ≡ 16)
-LockGoesOn (Lost hunting) old bits = Hunts hunting [] × (after_loss bits ≡ Some []) × (held_words bits ≡ words_of old)
+LockGoesOn (Still locked) old bits = LockHolds locked bits × (words_of_bits bits ≡ words_of_bits old)
+LockGoesOn (Slot locked place word) old bits = LockHolds locked bits × HasOneMore word old bits × (length (words_of_bits old) % BATCH_WORDS ≡ place) × (place < SLOTS) × (word < 2 ^ 32)
+LockGoesOn (Batch locked) old bits = LockHolds locked bits × (word : ℕ) × HasOneMore word old bits × (length (words_of_bits old) % BATCH_WORDS ≡ SLOTS)
+LockGoesOn (Lost hunting) old bits = Hunts hunting [] × (after_loss bits ≡ Some []) × (held_words bits ≡ words_of_bits old)
 
 -- a slot has a place from 0 to 15
 abbrev pub HasSlotPlace : LockStep → Type 0
 HasSlotPlace (Still locked) = Unit {0}
-HasSlotPlace (Slot locked place word) = place < 16
+HasSlotPlace (Slot locked place word) = place < SLOTS
 HasSlotPlace (Batch locked) = Unit {0}
 HasSlotPlace (Lost hunting) = Unit {0}

@@ -1,6 +1,7 @@
 -- What is heard in a list of bits: stretches of lock, and their words. docs/profile.md, "lock".
 use Rattle.std.specs.Prelude.{ℕ, zero, suc, ◌*◌, ◌/◌, ◌%◌, ◌==◌, Bool, true, false, ◌&&◌, nat_le, List, [], ◌∷◌, length, take, drop, Option, Some, None, option_map}
 use Rattle.bits.specs.Bits.{word_bits, number, dist}
+use Rattle.codeword.specs.declared.batches.TheConstants.{BATCH_WORDS, SLOTS}
 use Rattle.codeword.specs.declared.words.TheConstants.{SYNC}
 
 -- the bits differ from those of the sync word in at most two places
@@ -12,14 +13,14 @@ abbrev pub begins_with_sync : List Bool → Bool
 begins_with_sync bits = nat_le 32 (length bits) && near_sync (take 32 bits)
 
 -- the value where the test holds, and else the other
-abbrev pub some_or : {X : Type 0} → Bool → X → Option X → Option X
-some_or true x other = Some x
-some_or false x other = other
+abbrev pub value_or : {X : Type 0} → Bool → X → Option X → Option X
+value_or true x other = Some x
+value_or false x other = other
 
 -- what follows the first 32 bits that are near the sync word
 unfoldable pub after_sync : List Bool → Option (List Bool)
 after_sync [] = None
-after_sync (b ∷ bits) = some_or (begins_with_sync (b ∷ bits)) (drop 31 bits) (after_sync bits)
+after_sync (b ∷ bits) = value_or (begins_with_sync (b ∷ bits)) (drop 31 bits) (after_sync bits)
 
 -- the first n words of the bits
 unfoldable pub first_words : ℕ → List Bool → List ℕ
@@ -27,12 +28,12 @@ first_words zero bits = []
 first_words (suc n) bits = number (take 32 bits) ∷ first_words n (drop 32 bits)
 
 -- the bits cut into whole words
-abbrev pub words_of : List Bool → List ℕ
-words_of bits = first_words (length bits / 32) bits
+abbrev pub words_of_bits : List Bool → List ℕ
+words_of_bits bits = first_words (length bits / 32) bits
 
 -- of the words of a lock, counted from 0, each 17th is at a sync place
 abbrev pub is_sync_place : ℕ → Bool
-is_sync_place k = k % 17 == 16
+is_sync_place k = k % BATCH_WORDS == SLOTS
 
 -- the word is near the sync word
 abbrev pub is_sync : ℕ → Bool
@@ -51,7 +52,7 @@ held_from k (word ∷ words) = held_with (is_sync_place k) (is_sync word) word (
 
 -- the words of the lock that these bits follow
 abbrev pub held_words : List Bool → List ℕ
-held_words bits = held_from 0 (words_of bits)
+held_words bits = held_from 0 (words_of_bits bits)
 
 -- a word at a sync place or not, near the sync word or not, and where the lock is lost behind it
 abbrev pub loss_with : Bool → Bool → Option ℕ → Option ℕ
@@ -67,7 +68,7 @@ loss_from k (word ∷ words) = loss_with (is_sync_place k) (is_sync word) (loss_
 
 -- what follows the word at which this lock is lost
 abbrev pub after_loss : List Bool → Option (List Bool)
-after_loss bits = option_map (λ n. drop (32 * n) bits) (loss_from 0 (words_of bits))
+after_loss bits = option_map (λ n. drop (32 * n) bits) (loss_from 0 (words_of_bits bits))
 
 -- the stretches behind a loss of lock, if there is one
 abbrev pub later_with : (List Bool → List (List ℕ)) → Option (List Bool) → List (List ℕ)

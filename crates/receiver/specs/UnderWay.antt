@@ -4,7 +4,8 @@ use Rattle.codeword.specs.declared.functions.Function.{Function}
 use Rattle.codeword.specs.declared.kinds.WordKind.{WordKind}
 use Rattle.codeword.specs.declared.kinds.WordKind.TheVariants.{Address, Message}
 use Rattle.codeword.specs.Kinds.{kind_of}
-use Rattle.receiver.specs.Heard.{HeardPage, capcode_at}
+use Rattle.codeword.specs.Capcodes.{capcode_at}
+use Rattle.receiver.specs.Heard.{HeardPage}
 
 -- ---- the page under way at the end of some slots
 
@@ -52,12 +53,12 @@ completed (Some page) (Some (Message group)) = []
 completed (Some page) (Some (Address high function)) = page ∷ []
 
 -- the page with one group more, where it has room
-abbrev pub longer : HeardPage → ℕ → Option HeardPage
-longer page group = open_if (nat_lt (length page.groups) 140) page.capcode page.function (page.groups ++ group ∷ [])
+abbrev pub with_group : HeardPage → ℕ → Option HeardPage
+with_group page group = open_if (nat_lt (length page.groups) 140) page.capcode page.function (page.groups ++ group ∷ [])
 
 -- the page under way after this word
 abbrev pub open_after : (ℕ → Bool) → ℕ → Option HeardPage → Option WordKind → Option HeardPage
 open_after listens place page None = None
 open_after listens place page (Some (Address high function)) = open_if (listens (capcode_at place high)) (capcode_at place high) function []
 open_after listens place None (Some (Message group)) = None
-open_after listens place (Some page) (Some (Message group)) = longer page group
+open_after listens place (Some page) (Some (Message group)) = with_group page group

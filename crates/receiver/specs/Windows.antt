@@ -1,12 +1,9 @@
 -- The windows of a hunt over a preamble. docs/profile.md, "lock".
+use Rattle.codeword.specs.Words.{filler}
 use Rattle.std.specs.Prelude.{◌≡◌, ℕ, ◌≤◌, Bool, true, List, [], ◌∷◌, ◌++◌, length, replicate, Some}
 use Rattle.bits.specs.Bits.{word_bits, words_bits, dist}
 use Rattle.codeword.specs.declared.words.TheConstants.{SYNC}
 use Rattle.receiver.specs.Stretches.{after_sync, is_sync_place, held_from, loss_from}
-
--- 32 bits 1010..10 of a preamble
-abbrev pub filler : ℕ
-filler = 0xAAAAAAAA
 
 -- the last n words of a clean preamble: 18 are a whole one, of 576 bits
 abbrev pub preamble_bits : ℕ → List Bool

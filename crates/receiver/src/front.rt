@@ -6,15 +6,12 @@ ghost use Rattle.receiver.specs.Stretches.{is_sync as is_sync_of};
 
 use crate::register::Register;
 use bch31::distance;
-use codeword::SYNC;
+use codeword::{SLOTS, SYNC};
 use std::marker::Model;
 use wires::piece::Piece;
 
 /// The most wrong bits of a sync word that is taken for one.
 const SYNC_TOLERANCE: u32 = 2;
-
-/// The slots between two sync words.
-const SLOTS: u32 = 16;
 
 /// A hunt for a sync word. It keeps the last 32 bits that it was fed.
 #[derive(Drop)]
@@ -39,13 +36,14 @@ pub struct Locked {
 
 impl Model for Locked {
     ghost use Rattle.std.specs.Prelude.{◌≤◌, ◌<◌, length};
+    ghost use Rattle.codeword.specs.declared.batches.TheConstants.{SLOTS};
     ghost use Rattle.receiver.specs.Locks.{Lock, lock_of};
 
     ghost Value = { Lock };
 
     ghost view = { λ l. lock_of l.place l.register };
 
-    ghost invariant = { λ l. (l.place ≤ 16) × (length l.register < 32) };
+    ghost invariant = { λ l. (l.place ≤ SLOTS) × (length l.register < 32) };
 }
 
 /// What a hunt does at a bit.
@@ -101,7 +99,7 @@ impl Hunting {
 
 impl Locked {
     ghost use Rattle.receiver.specs.Steps.{LockGoesOn, HasSlotPlace};
-    ghost use Rattle.receiver.specs.Locks.{Holds, lock_of};
+    ghost use Rattle.receiver.specs.Locks.{LockHolds, lock_of};
 
     /// A lock whose next word stands in the first slot.
     #[inline(always)]
@@ -117,7 +115,7 @@ impl Locked {
     /// Takes the next bit.
     #[inline(always)]
     pub fn feed(self, bit: bool) -> LockStep
-        ensures step { (bits : List Bool) → Holds self bits → LockGoesOn result bits (bits ++ bit ∷ []) }
+        ensures step { (bits : List Bool) → LockHolds self bits → LockGoesOn result bits (bits ++ bit ∷ []) }
         ensures place { HasSlotPlace result }
     {
         let mut register = self.register;
@@ -158,13 +156,14 @@ pub struct Front {
 
 impl Model for Front {
     ghost use Rattle.std.specs.Prelude.{◌≡◌, ◌≤◌, ◌<◌, length, true};
-    ghost use Rattle.receiver.specs.Fronts.{FrontEnd, front_of};
+    ghost use Rattle.codeword.specs.declared.batches.TheConstants.{SLOTS};
+    ghost use Rattle.receiver.specs.Fronts.{FrontEnd, front_end_of};
 
     ghost Value = { FrontEnd };
 
-    ghost view = { λ f. front_of f.is_locked f.place f.register };
+    ghost view = { λ f. front_end_of f.is_locked f.place f.register };
 
-    ghost invariant = { λ f. (f.place ≤ 16) × (f.is_locked ≡ true → length f.register < 32) };
+    ghost invariant = { λ f. (f.place ≤ SLOTS) × (f.is_locked ≡ true → length f.register < 32) };
 }
 
 /// What a front end meets at a bit.
@@ -182,8 +181,10 @@ pub enum FrontEvent {
 
 impl Front {
     ghost use Rattle.receiver.specs.Fronts.{FrontStandsFor, HasUnderWay};
-    ghost use Rattle.receiver.specs.FrontSteps.{Shows, Hears, HasFrontPlace};
-    ghost use Rattle.receiver.specs.Heard.{HeardPage};
+    ghost use Rattle.receiver.specs.FrontSteps.{Shows, HearsPage, HasFrontPlace};
+    ghost use Rattle.receiver.specs.Heard.{HeardPage, heard};
+    ghost use Rattle.receiver.specs.Last.{IsShorterFront};
+    ghost use Rattle.receiver.specs.Slots.{entries};
     ghost use Rattle.receiver.specs.declared.front.FrontEvent.TheVariants.{Still};
     ghost use Rattle.std.specs.Prelude.{◌<◌, None, length};
     ghost use Rattle.wires.specs.Pieces.{taken_of};
@@ -201,15 +202,20 @@ impl Front {
         }
     }
 
-    /// Takes the first bits of a piece, up to the first that isn't Still, or all.
+    /// Takes the first bits of a piece, up to the first that isn't Still, or all. No shorter front of them completes a sync word, a slot or a
+    /// page.
     pub fn feed_piece(&mut self, piece: &mut Piece) -> FrontEvent
         ensures shows { (bits : List Bool) → FrontStandsFor self.old bits → Shows self.new result bits (bits ++ taken_of piece.old piece.new) }
         ensures hears { (listens : ℕ → Bool) (page : Option HeardPage) (bits : List Bool) → HasUnderWay listens self.old page bits
-            → Hears listens page self.new result bits (bits ++ taken_of piece.old piece.new) }
+            → HearsPage listens page self.new result bits (bits ++ taken_of piece.old piece.new) }
         ensures place { HasFrontPlace result }
         ensures whole { piece.old ≡ taken_of piece.old piece.new ++ piece.new }
         ensures all { result ≡ Still → piece.new ≡ [] }
         ensures some { 0 < length piece.old → length piece.new < length piece.old }
+        ensures last_entry { (bits front : List Bool) → FrontStandsFor self.old bits → IsShorterFront front (taken_of piece.old piece.new)
+            → entries (bits ++ front) ≡ entries bits }
+        ensures last_page { (listens : ℕ → Bool) (bits front : List Bool) → FrontStandsFor self.old bits → IsShorterFront front (taken_of piece.old piece.new)
+            → heard listens (bits ++ front) ≡ heard listens bits }
     {
         if !self.is_locked {
             if !find_sync(&mut self.register, piece) {
@@ -244,7 +250,7 @@ impl Front {
     pub fn feed(&mut self, bit: bool) -> FrontEvent
         ensures shows { (bits : List Bool) → FrontStandsFor self.old bits → Shows self.new result bits (bits ++ bit ∷ []) }
         ensures hears { (listens : ℕ → Bool) (page : Option HeardPage) (bits : List Bool) → HasUnderWay listens self.old page bits
-            → Hears listens page self.new result bits (bits ++ bit ∷ []) }
+            → HearsPage listens page self.new result bits (bits ++ bit ∷ []) }
         ensures place { HasFrontPlace result }
     {
         self.register.push(bit);

@@ -1,16 +1,30 @@
 //! The page under way, and the page that the last bit completed: docs/profile.md, "page heard".
 
-ghost use Rattle.std.specs.Prelude.{◌≡◌, ℕ, Bool, None, Some, IfSome, IsSome, ◌≤◌, ◌<◌, ◌^◌, length, take};
-ghost use Rattle.codeword.specs.Kinds.{IsSmall};
+ghost use Rattle.std.specs.Prelude.{◌≡◌, ℕ, ◌+◌, Bool, List, None, Some, IfSome, IsSome, ◌≤◌, ◌<◌, ◌^◌, length, take};
+ghost use Rattle.codeword.specs.Kinds.{kind_of};
 ghost use Rattle.page_text.specs.Texts.{text_of};
+ghost use Rattle.receiver.specs.FrontSteps.{HasFrontPlace, completed_by, page_after, slots_by};
 ghost use Rattle.receiver.specs.UnderWay.{open_after, completed};
-ghost use Rattle.receiver.specs.Listeners.{answer_of, ready_pages};
-ghost use Rattle.receiver.specs.Gathering.{IsOurs, begun};
+ghost use Rattle.receiver.specs.Listeners.{ready_answer, is_one_of, ready_pages};
+ghost use Rattle.receiver.specs.Gathering.{IsFound, page_begun};
 
+use crate::front::FrontEvent;
 use crate::ready::Ready;
-use codeword::{Capcode, Function, WordKind};
+use codeword::{Capcode, Function, SLOTS, WordKind, kind, number_in_slot};
 use page_text::TextReader;
 use std::marker::Model;
+use std::sync::ledger::Ledger;
+use wires::steps::Steps;
+
+/// Capcodes that are listened to.
+pub trait CapcodeSet {
+    /// Their numbers.
+    ghost capcodes: { Self → List ℕ };
+
+    /// The capcode of this number, where it is one of these.
+    fn find(&self, number: u32) -> Option<Capcode>
+        ensures { IsFound (capcodes self.now) number result };
+}
 
 /// The page under way and its groups. Where the last bit completed a page, the groups are those of that page, and the page under way has
 /// none.
@@ -41,9 +55,39 @@ impl Gathering {
         }
     }
 
+    /// Takes what a front end met at the last bit. Answers the page that this bit completes, to one of these capcodes. Counts one step for
+    /// the word of a slot.
+    #[inline(always)]
+    pub fn meet<C: CapcodeSet, L: Ledger>(
+        &mut self,
+        event: FrontEvent,
+        capcodes: &C,
+        steps: &mut Steps<L>,
+    ) -> Option<Ready>
+        requires place { HasFrontPlace event }
+        ensures page { self.new.under_way ≡ page_after (is_one_of (C.capcodes capcodes.now)) self.old.under_way event }
+        ensures ready { completed_by self.old.under_way event ≡ ready_pages self.new.ready }
+        ensures answer { result ≡ ready_answer self.new.ready }
+        ensures steps { steps.new ≡ steps.old + slots_by event }
+    {
+        self.forget();
+        match event {
+            FrontEvent::Still => None,
+            FrontEvent::Batch => None,
+            FrontEvent::Lost => {
+                self.close();
+                None
+            }
+            FrontEvent::Slot(place, word) => {
+                steps.tick();
+                self.slot(place, word, capcodes)
+            }
+        }
+    }
+
     /// Forgets the page that the last bit completed.
     #[inline(always)]
-    pub fn forget(&mut self)
+    fn forget(&mut self)
         ensures ready { self.new.ready ≡ None }
         ensures page { self.new.under_way ≡ self.old.under_way }
     {
@@ -55,27 +99,22 @@ impl Gathering {
 
     /// The page under way ends unreported.
     #[inline(always)]
-    pub fn close(&mut self)
+    fn close(&mut self)
         ensures ready { self.new.ready ≡ self.old.ready }
         ensures page { self.new.under_way ≡ None }
     {
         self.page = None;
     }
 
-    /// Takes what the word of a slot says, and the capcode of an address word that is listened to. Answers the page that it completes.
-    pub fn slot(
-        &mut self,
-        place: u32,
-        kind: Option<WordKind>,
-        ours: Option<Capcode>,
-    ) -> Option<Ready>
+    /// Takes the word of a slot. Answers the page that it completes.
+    fn slot<C: CapcodeSet>(&mut self, place: u32, word: u32, capcodes: &C) -> Option<Ready>
         requires none_ready { self.old.ready ≡ None }
-        requires small { IfSome kind IsSmall }
-        ensures page { (listens : ℕ → Bool) → IsOurs listens place kind ours → self.new.under_way ≡ open_after listens place self.old.under_way kind }
-        ensures ready { completed self.old.under_way kind ≡ ready_pages self.new.ready }
-        ensures answer { result ≡ answer_of self.new.ready }
+        requires place { place < SLOTS }
+        ensures page { self.new.under_way ≡ open_after (is_one_of (C.capcodes capcodes.now)) place self.old.under_way (kind_of word) }
+        ensures ready { completed self.old.under_way (kind_of word) ≡ ready_pages self.new.ready }
+        ensures answer { result ≡ ready_answer self.new.ready }
     {
-        let Some(said) = kind else {
+        let Some(said) = kind(word) else {
             self.close();
             return None;
         };
@@ -84,7 +123,8 @@ impl Gathering {
                 self.push(group);
                 None
             }
-            WordKind::Address { high: _, function } => {
+            WordKind::Address { high, function } => {
+                let ours = capcodes.find(number_in_slot(high, place));
                 self.begin(function, ours);
                 self.ready
             }
@@ -94,7 +134,7 @@ impl Gathering {
     /// Begins a page, where the capcode is listened to. The page under way until now is complete.
     fn begin(&mut self, function: Function, ours: Option<Capcode>)
         requires none_ready { self.old.ready ≡ None }
-        ensures page { self.new.under_way ≡ begun function ours }
+        ensures page { self.new.under_way ≡ page_begun function ours }
         ensures ready { self.new.ready ≡ self.old.under_way }
     {
         self.ready = self.page;

@@ -3,18 +3,18 @@
 ghost use Rattle.std.specs.Prelude.{◌≡◌, ℕ, ◌+◌, ◌≤◌, ◌<◌, ◌==◌, ◌&&◌, ◌||◌, [], ◌∷◌, ◌++◌, All, Bool, IfOk, IfSome, IsSome, List, None, OnOk, length, take, true};
 ghost use Rattle.std.specs.BTreeMap.{keys};
 ghost use Rattle.std.specs.List.{slice_get};
+ghost use Rattle.std.specs.Map.{keys_of};
 ghost use Rattle.codeword.specs.Capcodes.{IsUsable};
-ghost use Rattle.codeword.specs.Kinds.{IsSmall};
 ghost use Rattle.page_text.specs.Texts.{text_of};
-ghost use Rattle.receiver.specs.Gathering.{IsFound, IsOurs};
+ghost use Rattle.receiver.specs.Last.{IsShorterFront};
 ghost use Rattle.receiver.specs.Listeners.{is_one_of};
 ghost use Rattle.receiver.specs.Receivers.{has_in, is_listed, is_paired, most_receivers, numbers_in, numbers_with};
 ghost use Rattle.wires.specs.Pieces.{taken_of};
 
-use crate::front::{Front, FrontEvent};
-use crate::gathering::Gathering;
+use crate::front::Front;
+use crate::gathering::{CapcodeSet, Gathering};
 use crate::ready::Ready;
-use codeword::{Capcode, WordKind, kind};
+use codeword::Capcode;
 use std::alloc::Global;
 use std::collections::BTreeMap;
 use std::marker::Model;
@@ -26,31 +26,73 @@ use wires::steps::Steps;
 /// The most receivers of a group.
 const MOST_RECEIVERS: u32 = 64;
 
+/// The receivers of each capcode, as a set of their numbers: the lowest bit is for the receiver 1.
+#[derive(Drop)]
+struct Holders {
+    sets: BTreeMap<u32, u64, Global>,
+}
+
+impl Model for Holders {
+    ghost use Rattle.std.specs.Prelude.{◌≡◌, ℕ, List, true};
+    ghost use Rattle.codeword.specs.Capcodes.{IsUsable};
+    ghost use Rattle.receiver.specs.Listeners.{is_one_of};
+    ghost use Rattle.std.specs.BTreeMap.{keys};
+
+    ghost Value = { List (ℕ × ℕ) };
+
+    ghost view = { λ h. h.sets.entries };
+
+    ghost invariant = { λ h. (c : ℕ) → is_one_of (keys h.sets) c ≡ true → IsUsable c };
+}
+
+impl Holders {
+    /// The number of the receiver that comes after so many among those that have this capcode, in ascending order.
+    fn holder(&self, capcode: Capcode, k: u32) -> Option<u32>
+        ensures { result ≡ slice_get (numbers_with (has_in self.now) capcode) k }
+    {
+        match self.sets.get(&capcode.number()) {
+            Some(set) => number_in(*set, k),
+            None => None,
+        }
+    }
+}
+
+impl CapcodeSet for Holders {
+    ghost capcodes = { λ h. keys_of h };
+
+    fn find(&self, number: u32) -> Option<Capcode> {
+        let sets = &self.sets;
+        let Some(capcode) = Capcode::of(number) else {
+            return None;
+        };
+        if sets.contains_key(&number) {
+            Some(capcode)
+        } else {
+            None
+        }
+    }
+}
+
 /// Receivers with the numbers 1 to 64, each with its capcodes, fed bit by bit. They have one front end, each slot's word is corrected once for all, and one page is
 /// under way at a time, since an address word ends the page before it.
 #[derive(Drop)]
 pub struct Group {
     front: Front,
-    /// The receivers of each capcode, as a set of their numbers: the lowest bit is for the receiver 1.
-    holders: BTreeMap<u32, u64, Global>,
+    holders: Holders,
     gathering: Gathering,
 }
 
 impl Model for Group {
-    ghost use Rattle.std.specs.Prelude.{◌≡◌, ℕ, true};
-    ghost use Rattle.codeword.specs.Capcodes.{IsUsable};
-    ghost use Rattle.receiver.specs.Listeners.{Listener, is_one_of, listener_of};
-    ghost use Rattle.std.specs.BTreeMap.{keys};
+    ghost use Rattle.receiver.specs.Listeners.{Listener, listener_of};
+    ghost use Rattle.std.specs.Map.{keys_of};
 
     ghost Value = { Listener };
 
-    ghost view = { λ g. listener_of g.front (keys g.holders) g.holders.entries g.gathering };
-
-    ghost invariant = { λ g. (c : ℕ) → is_one_of (keys g.holders) c ≡ true → IsUsable c };
+    ghost view = { λ g. listener_of g.front (keys_of g.holders) g.holders g.gathering };
 }
 
 impl Group {
-    ghost use Rattle.receiver.specs.Listeners.{StandsFor, answer_of, ready_pages};
+    ghost use Rattle.receiver.specs.Listeners.{StandsFor, ready_answer, ready_pages};
     ghost use Rattle.receiver.specs.Heard.{heard};
     ghost use Rattle.receiver.specs.Slots.{slots_in};
 
@@ -63,15 +105,15 @@ impl Group {
         ensures ready { IfOk result (λ g. g.ready ≡ None) }
         ensures stands { IfOk result (λ g. StandsFor g []) }
     {
-        let mut holders = BTreeMap::new(alloc);
+        let mut sets = BTreeMap::new(alloc);
         for (number, capcode) in pairs {
-            if let Err(Memory) = add_holder(&mut holders, *number, *capcode) {
+            if let Err(Memory) = add_holder(&mut sets, *number, *capcode) {
                 return Err(Memory);
             }
         }
         Ok(Group {
             front: Front::new(),
-            holders,
+            holders: Holders { sets },
             gathering: Gathering::new(),
         })
     }
@@ -81,10 +123,7 @@ impl Group {
     pub fn holder(&self, capcode: Capcode, k: u32) -> Option<u32>
         ensures { result ≡ slice_get (numbers_with (has_in self.now.holders) capcode) k }
     {
-        match self.holders.get(&capcode.number()) {
-            Some(set) => number_in(*set, k),
-            None => None,
-        }
+        self.holders.holder(capcode, k)
     }
 
     /// Takes the next bit. Answers the page that it completes, and None exactly where it completes none. Counts one step for the word of
@@ -95,28 +134,15 @@ impl Group {
         ensures stands { (bits : List Bool) → StandsFor self.old bits → StandsFor self.new (bits ++ bit ∷ []) }
         ensures page { (bits : List Bool) → StandsFor self.old bits
             → heard (is_one_of self.old.capcodes) (bits ++ bit ∷ []) ≡ heard (is_one_of self.old.capcodes) bits ++ ready_pages self.new.ready }
-        ensures answer { result ≡ answer_of self.new.ready }
+        ensures answer { result ≡ ready_answer self.new.ready }
         ensures steps { (bits : List Bool) → StandsFor self.old bits → steps.new + slots_in bits ≡ steps.old + slots_in (bits ++ bit ∷ []) }
     {
-        self.gathering.forget();
-        match self.front.feed(bit) {
-            FrontEvent::Still => None,
-            FrontEvent::Batch => None,
-            FrontEvent::Lost => {
-                self.gathering.close();
-                None
-            }
-            FrontEvent::Slot(place, word) => {
-                steps.tick();
-                let kind = kind(word);
-                let ours = match_any(&self.holders, place, kind);
-                self.gathering.slot(place, kind, ours)
-            }
-        }
+        let event = self.front.feed(bit);
+        self.gathering.meet(event, &self.holders, steps)
     }
 
     /// Takes the first bits of a piece: up to a bit that completes a page, or all. Answers the page, and None exactly where none is
-    /// complete. Counts one step for the word of each slot that they complete.
+    /// complete. No shorter front of these bits completes a page. Counts one step for the word of each slot that they complete.
     pub fn feed_piece<L: Ledger>(
         &mut self,
         piece: &mut Piece,
@@ -127,48 +153,21 @@ impl Group {
         ensures stands { (bits : List Bool) → StandsFor self.old bits → StandsFor self.new (bits ++ taken_of piece.old piece.new) }
         ensures page { (bits : List Bool) → StandsFor self.old bits
             → heard (is_one_of self.old.capcodes) (bits ++ taken_of piece.old piece.new) ≡ heard (is_one_of self.old.capcodes) bits ++ ready_pages self.new.ready }
-        ensures answer { result ≡ answer_of self.new.ready }
+        ensures answer { result ≡ ready_answer self.new.ready }
         ensures whole { piece.old ≡ taken_of piece.old piece.new ++ piece.new }
         ensures all { result ≡ None → piece.new ≡ [] }
         ensures some { 0 < length piece.old → length piece.new < length piece.old }
+        ensures last { (bits front : List Bool) → StandsFor self.old bits → IsShorterFront front (taken_of piece.old piece.new)
+            → heard (is_one_of self.old.capcodes) (bits ++ front) ≡ heard (is_one_of self.old.capcodes) bits }
         ensures steps { (bits : List Bool) → StandsFor self.old bits → steps.new + slots_in bits ≡ steps.old + slots_in (bits ++ taken_of piece.old piece.new) }
     {
         loop {
-            if let Some(page) = self.meet(piece, steps) {
+            let event = self.front.feed_piece(piece);
+            if let Some(page) = self.gathering.meet(event, &self.holders, steps) {
                 return Some(page);
             }
             if piece.is_empty() {
                 return None;
-            }
-        }
-    }
-
-    /// Takes the first bits of a piece, up to the end of a slot, a sync word or a loss of the lock, or all. Answers the page that they
-    /// complete.
-    fn meet<L: Ledger>(&mut self, piece: &mut Piece, steps: &mut Steps<L>) -> Option<Ready>
-        ensures capcodes { self.new.capcodes ≡ self.old.capcodes }
-        ensures holders { self.new.holders ≡ self.old.holders }
-        ensures stands { (bits : List Bool) → StandsFor self.old bits → StandsFor self.new (bits ++ taken_of piece.old piece.new) }
-        ensures page { (bits : List Bool) → StandsFor self.old bits
-            → heard (is_one_of self.old.capcodes) (bits ++ taken_of piece.old piece.new) ≡ heard (is_one_of self.old.capcodes) bits ++ ready_pages self.new.ready }
-        ensures answer { result ≡ answer_of self.new.ready }
-        ensures whole { piece.old ≡ taken_of piece.old piece.new ++ piece.new }
-        ensures some { 0 < length piece.old → length piece.new < length piece.old }
-        ensures steps { (bits : List Bool) → StandsFor self.old bits → steps.new + slots_in bits ≡ steps.old + slots_in (bits ++ taken_of piece.old piece.new) }
-    {
-        self.gathering.forget();
-        match self.front.feed_piece(piece) {
-            FrontEvent::Still => None,
-            FrontEvent::Batch => None,
-            FrontEvent::Lost => {
-                self.gathering.close();
-                None
-            }
-            FrontEvent::Slot(place, word) => {
-                steps.tick();
-                let kind = kind(word);
-                let ours = match_any(&self.holders, place, kind);
-                self.gathering.slot(place, kind, ours)
             }
         }
     }
@@ -220,34 +219,4 @@ fn number_in(set: u64, k: u32) -> Option<u32>
         }
     }
     None
-}
-
-/// The capcode of these whose address word the word in this slot is.
-fn match_any(
-    holders: &BTreeMap<u32, u64, Global>,
-    place: u32,
-    kind: Option<WordKind>,
-) -> Option<Capcode>
-    requires usable { (c : ℕ) → is_one_of (keys holders.now) c ≡ true → IsUsable c }
-    requires place { place < 16 }
-    requires small { IfSome kind IsSmall }
-    ensures { IsOurs (is_one_of (keys holders.now)) place kind result }
-{
-    let said = kind?;
-    match said {
-        WordKind::Address { high, function: _ } => find(holders, 8 * high + place / 2),
-        WordKind::Message { group: _ } => None,
-    }
-}
-
-/// The capcode of this number, where it is one of these.
-fn find(holders: &BTreeMap<u32, u64, Global>, number: u32) -> Option<Capcode>
-    requires usable { (c : ℕ) → is_one_of (keys holders.now) c ≡ true → IsUsable c }
-    ensures { IsFound (keys holders.now) number result }
-{
-    if holders.contains_key(&number) {
-        Capcode::of(number)
-    } else {
-        None
-    }
 }

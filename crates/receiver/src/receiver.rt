@@ -1,18 +1,18 @@
 //! A receiver of one to four capcodes: docs/profile.md, "page heard".
 
 ghost use Rattle.std.specs.Prelude.{◌≡◌, ℕ, ◌≤◌, ◌<◌, [], ◌∷◌, ◌++◌, Bool, IfSome, IsSome, List, None, length, take};
-ghost use Rattle.codeword.specs.Kinds.{IsSmall};
 ghost use Rattle.page_text.specs.Texts.{text_of};
-ghost use Rattle.receiver.specs.Gathering.{IsFound, IsOurs};
+ghost use Rattle.receiver.specs.Last.{IsShorterFront};
 ghost use Rattle.receiver.specs.Listeners.{is_one_of};
 ghost use Rattle.wires.specs.Pieces.{taken_of};
 
-use crate::front::{Front, FrontEvent};
-use crate::gathering::Gathering;
+use crate::front::Front;
+use crate::gathering::{CapcodeSet, Gathering};
 use crate::ready::Ready;
-use codeword::{Capcode, WordKind, kind};
+use codeword::Capcode;
 use std::marker::Model;
 use wires::piece::Piece;
+use wires::steps::{Steps, Work};
 
 /// The most capcodes of a receiver.
 const MOST_CAPCODES: usize = 4;
@@ -48,11 +48,12 @@ impl Capcodes {
             count: capcodes.len(),
         }
     }
+}
 
-    /// The capcode of this number, where it is one of these.
-    fn find(&self, number: u32) -> Option<Capcode>
-        ensures { IsFound self.now number result }
-    {
+impl CapcodeSet for Capcodes {
+    ghost capcodes = { λ c. c };
+
+    fn find(&self, number: u32) -> Option<Capcode> {
         for capcode in &self.items[..self.count] {
             if capcode.number() == number {
                 return Some(*capcode);
@@ -80,7 +81,7 @@ impl Model for Receiver {
 }
 
 impl Receiver {
-    ghost use Rattle.receiver.specs.Listeners.{StandsFor, answer_of, ready_pages};
+    ghost use Rattle.receiver.specs.Listeners.{StandsFor, ready_answer, ready_pages};
     ghost use Rattle.receiver.specs.Heard.{heard};
 
     /// A receiver of these one to four capcodes that was fed no bit.
@@ -105,71 +106,36 @@ impl Receiver {
         ensures stands { (bits : List Bool) → StandsFor self.old bits → StandsFor self.new (bits ++ bit ∷ []) }
         ensures page { (bits : List Bool) → StandsFor self.old bits
             → heard (is_one_of self.old.capcodes) (bits ++ bit ∷ []) ≡ heard (is_one_of self.old.capcodes) bits ++ ready_pages self.new.ready }
-        ensures answer { result ≡ answer_of self.new.ready }
+        ensures answer { result ≡ ready_answer self.new.ready }
     {
-        self.gathering.forget();
-        match self.front.feed(bit) {
-            FrontEvent::Still => None,
-            FrontEvent::Batch => None,
-            FrontEvent::Lost => {
-                self.gathering.close();
-                None
-            }
-            FrontEvent::Slot(place, word) => {
-                let kind = kind(word);
-                let ours = match_own(&self.capcodes, place, kind);
-                self.gathering.slot(place, kind, ours)
-            }
-        }
+        let event = self.front.feed(bit);
+        self.gathering
+            .meet(event, &self.capcodes, &mut Steps::<Work>::new())
     }
 
     /// Takes the first bits of a piece: up to a bit that completes a page, or all. Answers the page, and None exactly where none is
-    /// complete.
+    /// complete. No shorter front of these bits completes a page.
     pub fn feed_piece(&mut self, piece: &mut Piece) -> Option<Ready>
         ensures capcodes { self.new.capcodes ≡ self.old.capcodes }
         ensures holders { self.new.holders ≡ self.old.holders }
         ensures stands { (bits : List Bool) → StandsFor self.old bits → StandsFor self.new (bits ++ taken_of piece.old piece.new) }
         ensures page { (bits : List Bool) → StandsFor self.old bits
             → heard (is_one_of self.old.capcodes) (bits ++ taken_of piece.old piece.new) ≡ heard (is_one_of self.old.capcodes) bits ++ ready_pages self.new.ready }
-        ensures answer { result ≡ answer_of self.new.ready }
+        ensures answer { result ≡ ready_answer self.new.ready }
         ensures whole { piece.old ≡ taken_of piece.old piece.new ++ piece.new }
         ensures all { result ≡ None → piece.new ≡ [] }
         ensures some { 0 < length piece.old → length piece.new < length piece.old }
+        ensures last { (bits front : List Bool) → StandsFor self.old bits → IsShorterFront front (taken_of piece.old piece.new)
+            → heard (is_one_of self.old.capcodes) (bits ++ front) ≡ heard (is_one_of self.old.capcodes) bits }
     {
+        let mut steps = Steps::<Work>::new();
         loop {
-            if let Some(page) = self.meet(piece) {
+            let event = self.front.feed_piece(piece);
+            if let Some(page) = self.gathering.meet(event, &self.capcodes, &mut steps) {
                 return Some(page);
             }
             if piece.is_empty() {
                 return None;
-            }
-        }
-    }
-
-    /// Takes the first bits of a piece, up to the end of a slot, a sync word or a loss of the lock, or all. Answers the page that they
-    /// complete.
-    fn meet(&mut self, piece: &mut Piece) -> Option<Ready>
-        ensures capcodes { self.new.capcodes ≡ self.old.capcodes }
-        ensures holders { self.new.holders ≡ self.old.holders }
-        ensures stands { (bits : List Bool) → StandsFor self.old bits → StandsFor self.new (bits ++ taken_of piece.old piece.new) }
-        ensures page { (bits : List Bool) → StandsFor self.old bits
-            → heard (is_one_of self.old.capcodes) (bits ++ taken_of piece.old piece.new) ≡ heard (is_one_of self.old.capcodes) bits ++ ready_pages self.new.ready }
-        ensures answer { result ≡ answer_of self.new.ready }
-        ensures whole { piece.old ≡ taken_of piece.old piece.new ++ piece.new }
-        ensures some { 0 < length piece.old → length piece.new < length piece.old }
-    {
-        self.gathering.forget();
-        match self.front.feed_piece(piece) {
-            FrontEvent::Still => None,
-            FrontEvent::Batch => None,
-            FrontEvent::Lost => {
-                self.gathering.close();
-                None
-            }
-            FrontEvent::Slot(place, word) => {
-                let kind = kind(word);
-                let ours = match_own(&self.capcodes, place, kind);
-                self.gathering.slot(place, kind, ours)
             }
         }
     }
@@ -184,18 +150,5 @@ impl Receiver {
         ensures few { result ≤ 700 }
     {
         self.gathering.text(into)
-    }
-}
-
-/// The capcode of these whose address word the word in this slot is.
-fn match_own(own: &Capcodes, place: u32, kind: Option<WordKind>) -> Option<Capcode>
-    requires place { place < 16 }
-    requires small { IfSome kind IsSmall }
-    ensures { IsOurs (is_one_of own.now) place kind result }
-{
-    let said = kind?;
-    match said {
-        WordKind::Address { high, function: _ } => own.find(8 * high + place / 2),
-        WordKind::Message { group: _ } => None,
     }
 }

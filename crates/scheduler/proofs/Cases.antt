@@ -5,10 +5,11 @@ use Rattle.std.proofs.Math.Seq.{take-suc, take-length}
 use Rattle.page_text.specs.Page.{Page}
 use Rattle.page_pool.specs.Pool.{Pool}
 use Rattle.page_pool.specs.Pool.{pages as live_pages}
-use Rattle.scheduler.specs.Slots.{Piece, Run, run, frame, frame_at, in_frame}
+use Rattle.codeword.specs.Capcodes.{frame_at}
+use Rattle.scheduler.specs.Slots.{PlanPiece, Run, run, frame, in_frame}
 use Rattle.scheduler.specs.Slots.{Idle as IdlePiece}
 use Rattle.scheduler.specs.Plan.{without_first, pieces_from}
-use Rattle.scheduler.specs.Said.{messages, run_slots, slots_in}
+use Rattle.scheduler.specs.Said.{messages, run_slots, slots_of_pieces}
 use Rattle.scheduler.specs.Sendings.{first_of, messages_from, pieces_to_come, begun, slots_to_come, IsBetween}
 use Rattle.scheduler.specs.declared.slots.Slot.{Slot}
 use Rattle.scheduler.specs.declared.slots.Slot.TheVariants.{Address}
@@ -25,7 +26,7 @@ unfolding run_slots
 length-run page = sym (length-run_slots page) ∙ omega arith
 
 -- an idle piece comes where no page of the frame waits
-idle : (w : Pool) (p r : ℕ) (was : Bool) → p < 16 → slots_in (pieces_from p (live_pages w) was) ≢ []
+idle : (w : Pool) (p r : ℕ) (was : Bool) → p < 16 → slots_of_pieces (pieces_from p (live_pages w) was) ≢ []
     → filter (in_frame (p / 2)) (live_pages w) ≡ [] → r % 16 ≡ (p + 1) % 16
     → pieces_from p (live_pages w) was ≡ IdlePiece ∷ pieces_from r (live_pages w) true
 idle w p r was l h none m =
@@ -50,7 +51,7 @@ idle_ends w p r RunEnd b l h none m = record { pieces = idle w p r false l h non
 idle_ends w p r (InRun f k) b l h none m = absurd b
 
 -- the pieces of a transmission without a run under way
-pieces_between : (w : Pool) (p : ℕ) (last : Before) (pieces : List Piece) → IsBetween last
+pieces_between : (w : Pool) (p : ℕ) (last : Before) (pieces : List PlanPiece) → IsBetween last
     → ((was : Bool) → pieces_from p (live_pages w) was ≡ pieces) → pieces_to_come w p last ≡ pieces
 pieces_between w p Idle pieces b h = h true
 pieces_between w p RunEnd pieces b h = h false

@@ -4,8 +4,8 @@ use Rattle.page_text.specs.Page.{Page}
 use Rattle.page_pool.specs.Pool.{Live, Pool}
 use Rattle.page_pool.specs.Pool.{pages as live_pages}
 use Rattle.scheduler.specs.Plan.{is_done, pieces_from}
-use Rattle.scheduler.specs.Said.{messages, slots_in, AreSlots}
-use Rattle.scheduler.specs.Sendings.{first_of, slots_to_come, HasRun, StandsAt}
+use Rattle.scheduler.specs.Said.{messages, slots_of_pieces, AreSlots}
+use Rattle.scheduler.specs.Sendings.{first_of, slots_to_come, HasRun, SendingStandsAt}
 use Rattle.scheduler.specs.declared.slots.Slot.{Slot}
 use Rattle.scheduler.specs.declared.sendings.Before.{Before}
 use Rattle.scheduler.specs.declared.sendings.Before.TheVariants.{Idle, RunEnd, InRun}
@@ -31,8 +31,8 @@ no_live w e = none w.live e
 -- at the start of a batch, behind an idle slot, with no page, nothing is left
 pub at_end : (w : Pool) (p : ℕ) (last : Before) → last ≡ Idle → p ≡ 0 → live_pages w ≡ [] → slots_to_come w p last ≡ []
 at_end w p last is at none =
-    ap (slots_to_come w p) is ∙ ap (λ n. slots_in (pieces_from n (live_pages w) true)) at
-    ∙ ap (λ ws. slots_in (pieces_from 0 ws true)) none ∙ ap slots_in (pieces_from-done 0 [] true refl)
+    ap (slots_to_come w p) is ∙ ap (λ n. slots_of_pieces (pieces_from n (live_pages w) true)) at
+    ∙ ap (λ ws. slots_of_pieces (pieces_from 0 ws true)) none ∙ ap slots_of_pieces (pieces_from-done 0 [] true refl)
 
 -- and nowhere else
 pub record Ended (w : Pool) (p : ℕ) (last : Before) : Type 0 where
@@ -66,5 +66,5 @@ begins_empty w none = at_end w 0 Idle refl refl none
 pub begins_slots : (w : Pool) → live_pages w ≢ [] → AreSlots (live_pages w) (slots_to_come w 0 Idle)
 begins_slots w some = record { pieces = pieces_from 0 (live_pages w) true; layout = pieces_from-layout (live_pages w) some; slots_are = refl }
 
-pub begins_stands : (w : Pool) → live_pages w ≢ [] → StandsAt (live_pages w) [] w 0 Idle
+pub begins_stands : (w : Pool) → live_pages w ≢ [] → SendingStandsAt (live_pages w) [] w 0 Idle
 begins_stands w some = record { before = []; layout = pieces_from-layout (live_pages w) some; given_is = refl; held = refl }

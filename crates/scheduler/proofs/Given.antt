@@ -8,14 +8,14 @@ use Rattle.codeword.specs.declared.functions.Function.{Function}
 use Rattle.page_text.specs.Fits.{Fits}
 use Rattle.page_text.specs.Groups.{groups, HasGroups}
 use Rattle.page_text.specs.Page.{Page}
-use Rattle.page_pool.specs.Pool.{Live, Pool, Names, Takes, Sound, IsLive}
-use Rattle.page_pool.specs.Pool.{pages as live_pages, in_frame as is_live_in}
+use Rattle.page_pool.specs.Pool.{Live, Pool, Names, TakesPage, Sound, IsLive}
+use Rattle.page_pool.specs.Pool.{pages as live_pages, live_in_frame as is_live_in}
 use Rattle.page_pool.proofs.Texts.{fits-short}
-use Rattle.scheduler.specs.Slots.{Piece, Run, frame, in_frame}
+use Rattle.scheduler.specs.Slots.{PlanPiece, Run, frame, in_frame}
 use Rattle.scheduler.specs.Slots.{Idle as IdlePiece}
 use Rattle.scheduler.specs.Plan.{without_first}
 use Rattle.scheduler.specs.Said.{messages, HasGroup}
-use Rattle.scheduler.specs.Sendings.{first_of, slots_to_come, Follows, Gives, IsBetween, IsFirst, IsInRun, Keeps}
+use Rattle.scheduler.specs.Sendings.{first_of, slots_to_come, IsSendingOf, GivesOneSlot, IsBetween, IsFirst, IsInRun, KeepsPool}
 use Rattle.scheduler.specs.declared.slots.Slot.{Slot}
 use Rattle.scheduler.specs.declared.slots.Slot.TheVariants.{Address, Message}
 use Rattle.scheduler.specs.declared.slots.Slot.TheVariants.{Idle as IdleSlot}
@@ -27,8 +27,8 @@ use Rattle.scheduler.proofs.Giving.{Ends, GoesOn, next-on, next-end, stands-on, 
 use Rattle.scheduler.proofs.Cases.{idle_ends, address_ends, address_goes_on, message_ends, message_goes_on}
 
 -- a slot that goes on with a run
-gives-on : (slot : Slot) (s : Sending) (w : Pool) (s' : Sending) (w' : Pool) → Follows s' w' → HasGroup slot → Keeps w w'
-    → GoesOn slot w s.place s.before w' s'.place s'.before → Gives slot s w s' w'
+gives-on : (slot : Slot) (s : Sending) (w : Pool) (s' : Sending) (w' : Pool) → IsSendingOf s' w' → HasGroup slot → KeepsPool w w'
+    → GoesOn slot w s.place s.before w' s'.place s'.before → GivesOneSlot slot s w s' w'
 gives-on slot s w s' w' f h k g = record {
   follows = f;
   next = next-on slot w s.place s.before w' s'.place s'.before g;
@@ -38,8 +38,8 @@ gives-on slot s w s' w' f h k g = record {
 }
 
 -- a slot that ends a piece
-gives-end : (slot : Slot) (piece : Piece) (s : Sending) (w : Pool) (s' : Sending) (w' : Pool) → Follows s' w' → HasGroup slot → Keeps w w'
-    → Ends slot piece w s.place s.before w' s'.place s'.before → Gives slot s w s' w'
+gives-end : (slot : Slot) (piece : PlanPiece) (s : Sending) (w : Pool) (s' : Sending) (w' : Pool) → IsSendingOf s' w' → HasGroup slot → KeepsPool w w'
+    → Ends slot piece w s.place s.before w' s'.place s'.before → GivesOneSlot slot s w s' w'
 gives-end slot piece s w s' w' f h k g = record {
   follows = f;
   next = next-end slot w s.place s.before w' s'.place s'.before piece g;
@@ -49,13 +49,13 @@ gives-end slot piece s w s' w' f h k g = record {
 }
 
 -- no run is under way behind the idle word and behind a run
-follows-idle : (s : Sending) (w : Pool) → s.place < 16 → s.before ≡ Idle → Follows s w
+follows-idle : (s : Sending) (w : Pool) → s.place < 16 → s.before ≡ Idle → IsSendingOf s w
 follows-idle s w l e = record { in_batch = l; in_run = λ f k h. absurd (let x = sym e ∙ h in cc) }
 
-follows-run_end : (s : Sending) (w : Pool) → s.place < 16 → s.before ≡ RunEnd → Follows s w
+follows-run_end : (s : Sending) (w : Pool) → s.place < 16 → s.before ≡ RunEnd → IsSendingOf s w
 follows-run_end s w l e = record { in_batch = l; in_run = λ f k h. absurd (let x = sym e ∙ h in cc) }
 
-follows-in_run : (s : Sending) (w : Pool) (f k : ℕ) → s.place < 16 → s.before ≡ InRun f k → IsInRun w f k s.text.items → Follows s w
+follows-in_run : (s : Sending) (w : Pool) (f k : ℕ) → s.place < 16 → s.before ≡ InRun f k → IsInRun w f k s.text.items → IsSendingOf s w
 follows-in_run s w f k l e u = record {
   in_batch = l;
   in_run = λ g j h. (let x = sym e ∙ h in let a : f ≡ g = cc in let b : k ≡ j = cc in
@@ -73,9 +73,9 @@ pub first-live : (w : Pool) (f t : ℕ) → IsFirst w f t → IsLive w t
 first-live w f t h = let x = first-is w f t h in (x.entry, x.names)
 
 -- an idle slot
-pub gives-idle : (s s' : Sending) (w : Pool) (f : ℕ) → Follows s w → IsBetween s.before → slots_to_come w s.place s.before ≢ []
+pub gives-idle : (s s' : Sending) (w : Pool) (f : ℕ) → IsSendingOf s w → IsBetween s.before → slots_to_come w s.place s.before ≢ []
     → f ≡ s.place / 2 → None ≡ option_map (λ (e : Live). e.ticket) (find (is_live_in f) w.live)
-    → s'.place ≡ (s.place + 1) % 16 → s'.before ≡ Idle → Gives IdleSlot s w s' w
+    → s'.place ≡ (s.place + 1) % 16 → s'.before ≡ Idle → GivesOneSlot IdleSlot s w s' w
 gives-idle s s' w f follows between more at none place is =
     gives-end IdleSlot IdlePiece s w s' w (follows-idle s' w (omega (arith, place)) is) tt (keeps-same w)
     (subst (Ends IdleSlot IdlePiece w s.place s.before w s'.place) (sym is)
@@ -111,9 +111,9 @@ module _ (w : Pool) (f t : ℕ) (function : Function) (sound : Sound w) (h : IsF
       ∙ get_or-map Message (groups function text) k 0 (Message group) l ∙ ap Message (sym g)
 
   -- the next message slot, with others behind it
-  pub gives-message : (s s' : Sending) (text : List ℕ) (k group : ℕ) → Follows s w → s.before ≡ InRun f k → text ≡ s.text.items
+  pub gives-message : (s s' : Sending) (text : List ℕ) (k group : ℕ) → IsSendingOf s w → s.before ≡ InRun f k → text ≡ s.text.items
       → group < 2 ^ 20 → group ≡ slice_index (groups function text) k → k + 1 < length (groups function text)
-      → s'.place ≡ (s.place + 1) % 16 → s'.before ≡ InRun f (k + 1) → s'.text ≡ s.text → Gives (Message group) s w s' w
+      → s'.place ≡ (s.place + 1) % 16 → s'.before ≡ InRun f (k + 1) → s'.text ≡ s.text → GivesOneSlot (Message group) s w s' w
   gives-message s s' text k group follows way same small is more place before kept =
       let u = follows.in_run f k way in
       let e : text ≡ (first_of f w).text = same ∙ u.text_is in
@@ -127,9 +127,9 @@ module _ (w : Pool) (f t : ℕ) (function : Function) (sound : Sound w) (h : IsF
       (message_goes_on w s.place s'.place f k (Message group) u.more (own_group text k group e (omega (arith, more)) is) (omega (arith, place)))))
 
   -- the last message slot
-  pub gives-last : (s s' : Sending) (w' : Pool) (text : List ℕ) (k group : ℕ) → Follows s w → s.before ≡ InRun f k → text ≡ s.text.items
-      → group < 2 ^ 20 → group ≡ slice_index (groups function text) k → length (groups function text) ≤ k + 1 → Takes w w' t
-      → s'.place ≡ (s.place + 1) % 16 → s'.before ≡ RunEnd → Gives (Message group) s w s' w'
+  pub gives-last : (s s' : Sending) (w' : Pool) (text : List ℕ) (k group : ℕ) → IsSendingOf s w → s.before ≡ InRun f k → text ≡ s.text.items
+      → group < 2 ^ 20 → group ≡ slice_index (groups function text) k → length (groups function text) ≤ k + 1 → TakesPage w w' t
+      → s'.place ≡ (s.place + 1) % 16 → s'.before ≡ RunEnd → GivesOneSlot (Message group) s w s' w'
   gives-last s s' w' text k group follows way same small is last takes place before =
       let u = follows.in_run f k way in
       let x = first-is w f t h in
@@ -146,7 +146,7 @@ module _ (w : Pool) (f t : ℕ) (function : Function) (sound : Sound w) (h : IsF
 pub short : (w : Pool) (f t n : ℕ) → Sound w → IsFirst w f t → ((e : Live) → Names w t e → n ≡ length e.page.text) → n ≤ 400
 short w f t n sound h e = let x = first-is w f t h in omega (arith, e x.entry x.names, fits-short x.entry.page (sound.pages t x.entry x.names).fits)
 
-module _ (w : Pool) (t capcode : ℕ) (function : Function) (s s' : Sending) (f : ℕ) (follows : Follows s w) (between : IsBetween s.before)
+module _ (w : Pool) (t capcode : ℕ) (function : Function) (s s' : Sending) (f : ℕ) (follows : IsSendingOf s w) (between : IsBetween s.before)
     (at : f ≡ s.place / 2) (sound : Sound w) (h : IsFirst w f t) (capcode_is : (e : Live) → Names w t e → capcode ≡ e.page.capcode)
     (function_is : (e : Live) → Names w t e → function ≡ e.page.function) (place : s'.place ≡ (s.place + 1) % 16) where
   -- the address is that of the frame's first page
@@ -162,7 +162,7 @@ module _ (w : Pool) (t capcode : ℕ) (function : Function) (s s' : Sending) (f 
 
   -- the address slot of a page without message slots
   pub gives-tone : (w' : Pool) (n count : ℕ) → ((e : Live) → Names w t e → n ≡ length e.page.text) → HasGroups function n count → count ≡ 0
-      → Takes w w' t → s'.before ≡ RunEnd → Gives (Address capcode function) s w s' w'
+      → TakesPage w w' t → s'.before ≡ RunEnd → GivesOneSlot (Address capcode function) s w s' w'
   gives-tone w' n count e g zero_is takes before =
       let x = first-is w f t h in
       let page : Page = x.entry.page in
@@ -175,7 +175,7 @@ module _ (w : Pool) (t capcode : ℕ) (function : Function) (s s' : Sending) (f 
 
   -- the address slot of a page with message slots
   pub gives-address : (n count : ℕ) → ((e : Live) → Names w t e → n ≡ length e.page.text) → HasGroups function n count → count ≢ 0
-      → ((e : Live) → Names w t e → s'.text.items ≡ e.page.text) → s'.before ≡ InRun f 0 → Gives (Address capcode function) s w s' w
+      → ((e : Live) → Names w t e → s'.text.items ≡ e.page.text) → s'.before ≡ InRun f 0 → GivesOneSlot (Address capcode function) s w s' w
   gives-address n count e g some copied before =
       let x = first-is w f t h in
       let page : Page = x.entry.page in
@@ -183,7 +183,7 @@ module _ (w : Pool) (t capcode : ℕ) (function : Function) (s s' : Sending) (f 
       let is : first_of (s.place / 2) w ≡ page = ap (λ v. first_of v w) (sym at) ∙ x.is in
       let c = counted x n count e g in
       let m : length (messages (first_of f w)) ≡ length (messages page) = ap (λ q. length (messages q)) x.is in
-      let follows' : Follows s' w = follows-in_run s' w f 0 (omega (arith, place)) before (record {
+      let follows' : IsSendingOf s' w = follows-in_run s' w f 0 (omega (arith, place)) before (record {
         in_batch = omega (arith, at, follows.in_batch);
         waits = λ y. (let z = sym x.first ∙ y in cc);
         text_is = copied x.entry x.names ∙ ap (λ (p : Page). p.text) (sym x.is);

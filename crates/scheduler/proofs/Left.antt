@@ -1,8 +1,8 @@
 -- What stays of a pool while pages are taken out of it.
 use Rattle.std.proofs.Common.{ℕ, List, [], ◌∷◌, ◌++◌, refl, sym, ◌∙◌, ap, subst, arith, inl, inr}
-use Rattle.page_pool.specs.Pool.{Live, Pool, Takes, in_use}
+use Rattle.page_pool.specs.Pool.{Live, Pool, TakesPage, in_use}
 use Rattle.page_pool.proofs.Lists.{in_use-append}
-use Rattle.scheduler.specs.Sendings.{AreLeft, Keeps}
+use Rattle.scheduler.specs.Sendings.{AreLeft, KeepsPool}
 
 -- all of them are left
 left-same : (es : List Live) → AreLeft es es
@@ -30,11 +30,11 @@ left-then (e ∷ a) b c h k =
     ]
 
 -- nothing is taken
-pub keeps-same : (w : Pool) → Keeps w w
+pub keeps-same : (w : Pool) → KeepsPool w w
 keeps-same w = record { cells = refl; region = refl; left = left-same w.live }
 
 -- a page is taken
-pub keeps-taken : (old new : Pool) (t : ℕ) → Takes old new t → Keeps old new
+pub keeps-taken : (old new : Pool) (t : ℕ) → TakesPage old new t → KeepsPool old new
 keeps-taken old new t k = record {
   cells = omega (arith, ap in_use k.was, ap in_use k.left, k.spare, in_use-append k.before k.after, in_use-append k.before (k.entry ∷ k.after));
   region = k.region;
@@ -42,5 +42,5 @@ keeps-taken old new t k = record {
 }
 
 -- pages are taken, and then others
-pub keeps-then : (a b c : Pool) → Keeps a b → Keeps b c → Keeps a c
+pub keeps-then : (a b c : Pool) → KeepsPool a b → KeepsPool b c → KeepsPool a c
 keeps-then a b c h k = record { cells = k.cells ∙ h.cells; region = k.region ∙ h.region; left = left-then a.live b.live c.live h.left k.left }

@@ -3,8 +3,8 @@ use Rattle.std.proofs.Common.{◌≡◌, ℕ, true, List, [], ◌∷◌, ◌++�
 use Rattle.std.specs.List.{filter, find}
 use Rattle.std.specs.Option.{option_map}
 use Rattle.page_text.specs.Page.{Page}
-use Rattle.page_pool.specs.Pool.{Live, Pool, Names, Takes, TakesFirst, Sound, pages}
-use Rattle.page_pool.specs.Pool.{in_frame as is_live_in}
+use Rattle.page_pool.specs.Pool.{Live, Pool, Names, TakesPage, TakesFirst, Sound, pages}
+use Rattle.page_pool.specs.Pool.{live_in_frame as is_live_in}
 use Rattle.page_pool.proofs.Laws.{find_split, found, first_taken}
 use Rattle.scheduler.specs.Slots.{frame, in_frame}
 use Rattle.scheduler.specs.Plan.{without_first}
@@ -84,7 +84,7 @@ none-waits w f h = none f w.live h
         ]
 
 -- who takes the first page of a frame leaves the others
-pub pages-taken : (old new : Pool) (f t : ℕ) → Sound old → IsFirst old f t → Takes old new t → pages new ≡ without_first f (pages old)
+pub pages-taken : (old new : Pool) (f t : ℕ) → Sound old → IsFirst old f t → TakesPage old new t → pages new ≡ without_first f (pages old)
 pages-taken old new f t sound h k =
     let x = first_taken old new f t sound h k in
     let T : TakesFirst old new f x.0 = x.1 in

@@ -2,14 +2,15 @@
 use Rattle.std.proofs.Common.{◌≡◌, ◌≢◌, ℕ, ◌+◌, ◌/◌, ◌%◌, Bool, true, false, List, [], ◌∷◌, ◌++◌, length, eqb, refl, sym, ◌∙◌, ap, subst, arith, eq-eqb, eqb-true, ◌⊎◌, inl, inr}
 use Rattle.std.specs.List.{filter}
 use Rattle.page_text.specs.Page.{Page}
-use Rattle.scheduler.specs.Slots.{Piece, Idle, Run, run, frame, frame_at, in_frame, IsLayout}
+use Rattle.codeword.specs.Capcodes.{frame_at}
+use Rattle.scheduler.specs.Slots.{PlanPiece, Idle, Run, run, frame, in_frame, IsLayout}
 use Rattle.scheduler.specs.Plan.{is_done, without_first, room, pieces_from, still}
-use Rattle.scheduler.specs.Said.{run_slots, slots_in}
+use Rattle.scheduler.specs.Said.{run_slots, slots_of_pieces}
 use Rattle.scheduler.proofs.Lays.{Lays, stop, wait, send, at_end, lays_layout}
 use Rattle.scheduler.proofs.Room.{some_pieces-lays}
 
 -- what is chosen depends on the place in the batch alone
-pub lays_same : (p r : ℕ) (waiting : List Page) (idle : Bool) (xs ys : List Piece) → p % 16 ≡ r % 16 → Lays p waiting idle xs
+pub lays_same : (p r : ℕ) (waiting : List Page) (idle : Bool) (xs ys : List PlanPiece) → p % 16 ≡ r % 16 → Lays p waiting idle xs
     → Lays r waiting idle ys → xs ≡ ys
 lays_same p r waiting idle xs ys e (stop z) y = sym (at_end r waiting idle ys y refl refl (sym e ∙ z))
 lays_same p r waiting idle xs ys e (wait {pieces = rest} none not x) (stop z) =
@@ -44,7 +45,7 @@ unfolding pieces_from
 pieces_from-lays p waiting idle = some_pieces-lays (room p waiting idle) p waiting idle (omega arith)
 
 -- they are all that can be chosen
-pub pieces_from-is : (p : ℕ) (waiting : List Page) (idle : Bool) (pieces : List Piece) → Lays p waiting idle pieces
+pub pieces_from-is : (p : ℕ) (waiting : List Page) (idle : Bool) (pieces : List PlanPiece) → Lays p waiting idle pieces
     → pieces_from p waiting idle ≡ pieces
 pieces_from-is p waiting idle pieces x = lays_same p p waiting idle _ pieces refl (pieces_from-lays p waiting idle) x
 
@@ -78,17 +79,17 @@ pieces_from-send p r waiting idle page more first e =
     ∙ ap (λ pieces. Run page ∷ pieces) (pieces_from-mod n r behind false (sym e))
 
 -- the run of a page has a slot
-starts : (page : Page) (rest : List Piece) → slots_in (Run page ∷ rest) ≢ []
+starts : (page : Page) (rest : List PlanPiece) → slots_of_pieces (Run page ∷ rest) ≢ []
 unfolding run_slots
 starts page rest h = cc
 
 -- before the end a slot is left
 pub slots_from-more : (p : ℕ) (waiting : List Page) (idle : Bool) → is_done p waiting idle ≡ false
-    → slots_in (pieces_from p waiting idle) ≢ []
+    → slots_of_pieces (pieces_from p waiting idle) ≢ []
 slots_from-more p waiting idle d e =
     elim (full (filter (in_frame (frame_at p)) waiting)) [
-      | inl n ↦ let k = ap slots_in (pieces_from-wait p (p + 1) waiting idle n d refl) in cc
-      | inr x ↦ let k = ap slots_in (pieces_from-send p (p + length (run x.0)) waiting idle x.0 x.1 x.2 refl) in starts x.0 _ (sym k ∙ e)
+      | inl n ↦ let k = ap slots_of_pieces (pieces_from-wait p (p + 1) waiting idle n d refl) in cc
+      | inr x ↦ let k = ap slots_of_pieces (pieces_from-send p (p + length (run x.0)) waiting idle x.0 x.1 x.2 refl) in starts x.0 _ (sym k ∙ e)
     ]
   where
     full : (pages : List Page) → (pages ≡ []) ⊎ ((page : Page) × (more : List Page) × pages ≡ page ∷ more)
@@ -96,12 +97,12 @@ slots_from-more p waiting idle d e =
     full (page ∷ more) = inr (page, more, refl)
 
 -- where one is left, it is not the end
-pub slots_from-not_done : (p : ℕ) (waiting : List Page) (idle : Bool) → slots_in (pieces_from p waiting idle) ≢ []
+pub slots_from-not_done : (p : ℕ) (waiting : List Page) (idle : Bool) → slots_of_pieces (pieces_from p waiting idle) ≢ []
     → is_done p waiting idle ≡ false
 slots_from-not_done p waiting idle h = tell (is_done p waiting idle) refl
   where
     tell : (b : Bool) → is_done p waiting idle ≡ b → is_done p waiting idle ≡ false
-    tell true e = absurd (h (ap slots_in (pieces_from-done p waiting idle e)))
+    tell true e = absurd (h (ap slots_of_pieces (pieces_from-done p waiting idle e)))
     tell false e = e
 
 -- from the first place on they meet the four conditions

@@ -3,7 +3,8 @@ use Rattle.std.proofs.Common.{◌≡◌, ◌≢◌, ℕ, zero, suc, ◌+◌, ◌
 use Rattle.std.specs.List.{filter, sum_by}
 use Rattle.std.proofs.lemmas.Bool.Decides.{eqb_tells}
 use Rattle.page_text.specs.Page.{Page}
-use Rattle.scheduler.specs.Slots.{Piece, Idle, Run, run, frame, frame_at, in_frame, place}
+use Rattle.codeword.specs.Capcodes.{frame_at}
+use Rattle.scheduler.specs.Slots.{PlanPiece, Idle, Run, run, frame, in_frame, place}
 use Rattle.scheduler.specs.Plan.{is_done, without_first, some_pieces, way, room}
 use Rattle.scheduler.proofs.Frames.{true_or_false, filter-yes, size, run_size, length-without_first, sum-without_first}
 use Rattle.scheduler.proofs.Pieces.{place-run}
@@ -101,7 +102,7 @@ some_pieces-lays (suc n) start waiting idle h =
     ]
 
 -- they take no more slots than the room
-pub place-lays : (start : ℕ) (waiting : List Page) (idle : Bool) (pieces : List Piece) → Lays start waiting idle pieces
+pub place-lays : (start : ℕ) (waiting : List Page) (idle : Bool) (pieces : List PlanPiece) → Lays start waiting idle pieces
     → place pieces ≤ room start waiting idle
 place-lays start waiting idle pieces (stop h) = omega arith
 place-lays start waiting idle pieces (wait {pieces = rest} none not r) =

@@ -9,8 +9,8 @@ use Rattle.page_text.proofs.Back.{length-groups}
 use Rattle.page_pool.specs.Pool.{Live, Pool, Sound, in_use}
 use Rattle.page_pool.specs.Pool.{pages as live_pages}
 use Rattle.scheduler.specs.Slots.{run}
-use Rattle.scheduler.specs.Said.{word_in, messages, run_slots, slots_in, AreSlots}
-use Rattle.scheduler.specs.Sendings.{first_of, pieces_behind, pieces_to_come, begun, slots_to_come, HasRun, StandsAt, Held}
+use Rattle.scheduler.specs.Said.{word_in, messages, run_slots, slots_of_pieces, AreSlots}
+use Rattle.scheduler.specs.Sendings.{first_of, pieces_behind, pieces_to_come, begun, slots_to_come, HasRun, SendingStandsAt, HeldPages}
 use Rattle.scheduler.specs.declared.slots.Slot.{Slot}
 use Rattle.scheduler.specs.declared.slots.Slot.TheVariants.{Address}
 use Rattle.scheduler.specs.declared.sendings.Before.{Before}
@@ -22,18 +22,18 @@ use Rattle.scheduler.proofs.Said.{slots_in-append, map-slots_in, slots_schedule}
 use Rattle.scheduler.proofs.Schedules.{few_slots}
 
 -- what was given, and what is still to come, are the slots of a transmission
-pub slots-stands : (accepted : List Page) (given : List Slot) (w : Pool) (place : ℕ) (last : Before) → StandsAt accepted given w place last
+pub slots-stands : (accepted : List Page) (given : List Slot) (w : Pool) (place : ℕ) (last : Before) → SendingStandsAt accepted given w place last
     → AreSlots accepted (given ++ slots_to_come w place last)
 slots-stands accepted given w place last s = record {
   pieces = s.before ++ pieces_to_come w place last;
   layout = s.layout;
-  slots_are = ap (λ l. l ++ slots_to_come w place last) s.given_is ∙ append_assoc (slots_in s.before) (begun w last) (slots_to_come w place last)
-      ∙ ap (λ l. slots_in s.before ++ l) (begun-append w place last) ∙ sym (slots_in-append s.before (pieces_to_come w place last));
+  slots_are = ap (λ l. l ++ slots_to_come w place last) s.given_is ∙ append_assoc (slots_of_pieces s.before) (begun w last) (slots_to_come w place last)
+      ∙ ap (λ l. slots_of_pieces s.before ++ l) (begun-append w place last) ∙ sym (slots_in-append s.before (pieces_to_come w place last));
 }
 
 -- what the pool holds are the accepted pages without those whose runs were given whole
 pub held-stands : (accepted : List Page) (given : List Slot) (w : Pool) (place : ℕ) (last : Before) (text : List ℕ) → HasRun w last text
-    → StandsAt accepted given w place last → Held accepted given (live_pages w)
+    → SendingStandsAt accepted given w place last → HeldPages accepted given (live_pages w)
 unfolding run_slots
 held-stands accepted given w place (InRun f k) text u s =
     let page : Page = first_of f w in
@@ -77,7 +77,7 @@ held-stands accepted given w place RunEnd text u s = record {
 pub whole-slots : (accepted : List Page) (slots : List Slot) → AreSlots accepted slots → (b : ℕ) × (length slots ≡ 16 * b)
 whole-slots accepted slots are =
     let b = are.layout.batches in
-    (b.0, ap length are.slots_are ∙ sym (length-map (slots_in are.pieces) word_in) ∙ ap length (map-slots_in are.pieces) ∙ b.1)
+    (b.0, ap length are.slots_are ∙ sym (length-map (slots_of_pieces are.pieces) word_in) ∙ ap length (map-slots_in are.pieces) ∙ b.1)
 
 -- they are few
 pub few-slots : (accepted : List Page) (slots : List Slot) → accepted ≢ [] → AreSlots accepted slots

@@ -2,7 +2,7 @@
 use Rattle.std.specs.Prelude.{ℕ, List}
 use Rattle.page_text.specs.Page.{Page}
 use Rattle.page_pool.specs.Pool.{Pool}
-use Rattle.scheduler.specs.Sendings.{StandsAt, slots_to_come}
+use Rattle.scheduler.specs.Sendings.{SendingStandsAt, slots_to_come}
 use Rattle.scheduler.specs.declared.slots.Slot.{Slot}
 use Rattle.scheduler.specs.declared.pooled.Schedule.{Schedule}
 
@@ -19,5 +19,5 @@ abbrev pub pool_of : Schedule → Pool
 pool_of s = s.pool.now
 
 -- these slots were given of a transmission of the accepted pages, and the pool holds those whose runs aren't whole
-abbrev pub Stands : List Page → List Slot → Schedule → Type 0
-Stands accepted given s = StandsAt accepted given s.pool.now s.sending.place s.sending.before
+abbrev pub ScheduleStands : List Page → List Slot → Schedule → Type 0
+ScheduleStands accepted given s = SendingStandsAt accepted given s.pool.now s.sending.place s.sending.before

@@ -4,7 +4,7 @@ use Rattle.codeword.specs.declared.words.TheConstants.{IDLE}
 use Rattle.codeword.specs.Words.{address_of, message_of}
 use Rattle.page_text.specs.Groups.{groups}
 use Rattle.page_text.specs.Page.{Page}
-use Rattle.scheduler.specs.Slots.{Piece, Run, IsLayout}
+use Rattle.scheduler.specs.Slots.{PlanPiece, Run, IsLayout}
 use Rattle.scheduler.specs.Slots.{Idle as IdlePiece}
 use Rattle.scheduler.specs.declared.slots.Slot.{Slot}
 use Rattle.scheduler.specs.declared.slots.Slot.TheVariants.{Idle, Address, Message}
@@ -24,16 +24,16 @@ unfoldable pub run_slots : Page → List Slot
 run_slots page = Address page.capcode page.function ∷ messages page
 
 -- the slots of pieces
-abbrev pub slots_in : List Piece → List Slot
-slots_in [] = []
-slots_in (IdlePiece ∷ rest) = Idle ∷ slots_in rest
-slots_in (Run page ∷ rest) = run_slots page ++ slots_in rest
+abbrev pub slots_of_pieces : List PlanPiece → List Slot
+slots_of_pieces [] = []
+slots_of_pieces (IdlePiece ∷ rest) = Idle ∷ slots_of_pieces rest
+slots_of_pieces (Run page ∷ rest) = run_slots page ++ slots_of_pieces rest
 
 -- these are the slots of a transmission of the accepted pages, by what they say: their pieces meet the four conditions
 pub record AreSlots (accepted : List Page) (slots : List Slot) : Type 0 where
-  pub pieces : List Piece
+  pub pieces : List PlanPiece
   pub layout : IsLayout accepted pieces
-  pub slots_are : slots ≡ slots_in pieces
+  pub slots_are : slots ≡ slots_of_pieces pieces
 
 -- a group of a message slot has 20 bits
 abbrev pub HasGroup : Slot → Type 0

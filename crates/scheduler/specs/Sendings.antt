@@ -2,13 +2,14 @@
 use Rattle.std.specs.Prelude.{◌≡◌, ◌≢◌, ◌⊎◌, ◌+◌, ◌<◌, ℕ, true, false, List, [], ◌∷◌, ◌++◌, length, drop, take, Some}
 use Rattle.std.specs.List.{filter, find}
 use Rattle.std.specs.Option.{option_map}
+use Rattle.codeword.specs.declared.batches.TheConstants.{SLOTS}
 use Rattle.codeword.specs.declared.functions.Function.TheVariants.{Numeric}
 use Rattle.page_text.specs.Page.{Page}
 use Rattle.page_pool.specs.Pool.{Live, Pool, cells}
-use Rattle.page_pool.specs.Pool.{pages as live_pages, in_frame as is_live_in}
-use Rattle.scheduler.specs.Slots.{Piece, Run, in_frame, pages, IsLayout}
+use Rattle.page_pool.specs.Pool.{pages as live_pages, live_in_frame as is_live_in}
+use Rattle.scheduler.specs.Slots.{PlanPiece, Run, in_frame, pages_in_order, IsLayout}
 use Rattle.scheduler.specs.Plan.{without_first, pieces_from, still}
-use Rattle.scheduler.specs.Said.{messages, run_slots, slots_in, HasGroup}
+use Rattle.scheduler.specs.Said.{messages, run_slots, slots_of_pieces, HasGroup}
 use Rattle.scheduler.specs.declared.slots.Slot.{Slot}
 use Rattle.scheduler.specs.declared.slots.Slot.TheVariants.{Address}
 use Rattle.scheduler.specs.declared.sendings.Before.{Before}
@@ -29,11 +30,11 @@ abbrev pub messages_from : Page → ℕ → List Slot
 messages_from page k = drop k (messages page)
 
 -- the pieces that are still to come from a place on, after the run under way
-abbrev pub pieces_behind : Pool → ℕ → ℕ → ℕ → List Piece
+abbrev pub pieces_behind : Pool → ℕ → ℕ → ℕ → List PlanPiece
 pieces_behind w place f k = pieces_from (place + length (messages_from (first_of f w) k)) (without_first f (live_pages w)) false
 
 -- the pieces that are still to come, the run under way first
-abbrev pub pieces_to_come : Pool → ℕ → Before → List Piece
+abbrev pub pieces_to_come : Pool → ℕ → Before → List PlanPiece
 pieces_to_come w place Idle = pieces_from place (live_pages w) true
 pieces_to_come w place RunEnd = pieces_from place (live_pages w) false
 pieces_to_come w place (InRun f k) = Run (first_of f w) ∷ pieces_behind w place f k
@@ -46,10 +47,10 @@ begun w (InRun f k) = Address (first_of f w).capcode (first_of f w).function ∷
 
 -- the slots that are still to come
 abbrev pub slots_to_come : Pool → ℕ → Before → List Slot
-slots_to_come w place Idle = slots_in (pieces_from place (live_pages w) true)
-slots_to_come w place RunEnd = slots_in (pieces_from place (live_pages w) false)
+slots_to_come w place Idle = slots_of_pieces (pieces_from place (live_pages w) true)
+slots_to_come w place RunEnd = slots_of_pieces (pieces_from place (live_pages w) false)
 slots_to_come w place (InRun f k) =
-    messages_from (first_of f w) k ++ slots_in (pieces_behind w place f k)
+    messages_from (first_of f w) k ++ slots_of_pieces (pieces_behind w place f k)
 
 -- no run is under way
 abbrev pub IsBetween : Before → Type 0
@@ -73,17 +74,17 @@ abbrev pub HasRun : Pool → Before → List ℕ → Type 0
 HasRun w last text = (f k : ℕ) → last ≡ InRun f k → IsInRun w f k text
 
 -- what holds between a transmission and its pool
-pub record Follows (s : Sending) (w : Pool) : Type 0 where
-  pub in_batch : s.place < 16
+pub record IsSendingOf (s : Sending) (w : Pool) : Type 0 where
+  pub in_batch : s.place < SLOTS
   pub in_run : HasRun w s.before s.text.items
 
 -- What was given of a transmission of the accepted pages, and which of them are held: whole pieces came before the run under way, and
 -- what the pool holds are the accepted pages without those whose runs are whole.
-pub record StandsAt (accepted : List Page) (given : List Slot) (w : Pool) (place : ℕ) (last : Before) : Type 0 where
-  pub before : List Piece
+pub record SendingStandsAt (accepted : List Page) (given : List Slot) (w : Pool) (place : ℕ) (last : Before) : Type 0 where
+  pub before : List PlanPiece
   pub layout : IsLayout accepted (before ++ pieces_to_come w place last)
-  pub given_is : given ≡ slots_in before ++ begun w last
-  pub held : live_pages w ≡ still (pages before) accepted
+  pub given_is : given ≡ slots_of_pieces before ++ begun w last
+  pub held : live_pages w ≡ still (pages_in_order before) accepted
 
 -- These are the live pages of before without some of them, in their order: each that stays has its ticket and its places.
 unfoldable pub AreLeft : List Live → List Live → Type 0
@@ -91,32 +92,32 @@ AreLeft [] new = new ≡ []
 AreLeft (e ∷ old) new = AreLeft old new ⊎ ((rest : List Live) × (new ≡ e ∷ rest) × AreLeft old rest)
 
 -- what stays of a pool while pages are taken out of it: its cells, what stands in them, and the pages that aren't taken
-pub record Keeps (old new : Pool) : Type 0 where
+pub record KeepsPool (old new : Pool) : Type 0 where
   pub cells : cells new ≡ cells old
   pub region : new.region ≡ old.region
   pub left : AreLeft old.live new.live
 
 -- a part of the run that comes next, or nothing
-abbrev pub IsPart : List Slot → List Piece → Type 0
-IsPart part pieces = (part ≡ []) ⊎ ((page : Page) × (behind : List Piece) × (rest : List Slot) × (pieces ≡ Run page ∷ behind)
+abbrev pub IsPart : List Slot → List PlanPiece → Type 0
+IsPart part pieces = (part ≡ []) ⊎ ((page : Page) × (behind : List PlanPiece) × (rest : List Slot) × (pieces ≡ Run page ∷ behind)
     × (run_slots page ≡ part ++ rest) × (rest ≢ []))
 
 -- These slots were given of a transmission of the accepted pages, and these pages are held: the accepted ones, in order, without
 -- those whose runs are whole among the slots.
-pub record Held (accepted : List Page) (given : List Slot) (held : List Page) : Type 0 where
-  pub before : List Piece
-  pub next : List Piece
+pub record HeldPages (accepted : List Page) (given : List Slot) (held : List Page) : Type 0 where
+  pub before : List PlanPiece
+  pub next : List PlanPiece
   pub part : List Slot
   pub layout : IsLayout accepted (before ++ next)
-  pub given_is : given ≡ slots_in before ++ part
+  pub given_is : given ≡ slots_of_pieces before ++ part
   pub in_part : IsPart part next
-  pub held_are : held ≡ still (pages before) accepted
+  pub held_are : held ≡ still (pages_in_order before) accepted
 
 -- one slot was given
-pub record Gives (slot : Slot) (s : Sending) (w : Pool) (s' : Sending) (w' : Pool) : Type 0 where
-  pub follows : Follows s' w'
+pub record GivesOneSlot (slot : Slot) (s : Sending) (w : Pool) (s' : Sending) (w' : Pool) : Type 0 where
+  pub follows : IsSendingOf s' w'
   pub next : slots_to_come w s.place s.before ≡ slot ∷ slots_to_come w' s'.place s'.before
   pub group : HasGroup slot
-  pub stands : (accepted : List Page) (given : List Slot) → StandsAt accepted given w s.place s.before
-      → StandsAt accepted (given ++ slot ∷ []) w' s'.place s'.before
-  pub keeps : Keeps w w'
+  pub stands : (accepted : List Page) (given : List Slot) → SendingStandsAt accepted given w s.place s.before
+      → SendingStandsAt accepted (given ++ slot ∷ []) w' s'.place s'.before
+  pub keeps : KeepsPool w w'

@@ -6,7 +6,7 @@ ghost use Rattle.page_text.specs.Page.{Page};
 ghost use Rattle.page_pool.specs.Pool.{pages};
 ghost use Rattle.scheduler.specs.Slots.{run};
 ghost use Rattle.scheduler.specs.Said.{AreSlots, HasGroup, heads_in};
-ghost use Rattle.scheduler.specs.Sendings.{Follows, Keeps};
+ghost use Rattle.scheduler.specs.Sendings.{IsSendingOf, KeepsPool};
 ghost use Rattle.scheduler.specs.declared.slots.Slot.{Slot as Said};
 
 use crate::sendings::Sending;
@@ -20,11 +20,11 @@ use wires::steps::Steps;
 pub struct Schedule<'a> {
     pool: &'a mut Pool,
     sending: Sending,
-    ghost follows: { Follows sending pool.now },
+    ghost follows: { IsSendingOf sending pool.now },
 }
 
 impl<'a> Schedule<'a> {
-    ghost use Rattle.scheduler.specs.Pooled.{Stands, lender, pool_of, slots_left};
+    ghost use Rattle.scheduler.specs.Pooled.{ScheduleStands, lender, pool_of, slots_left};
 
     /// Begins a transmission of the pool's pages.
     pub fn over(pool: &'a mut Pool) -> Schedule<'a>
@@ -32,7 +32,7 @@ impl<'a> Schedule<'a> {
         ensures same { pool_of result ≡ pool.old }
         ensures none { pages pool.old ≡ [] → slots_left result ≡ [] }
         ensures slots { pages pool.old ≢ [] → AreSlots (pages pool.old) (slots_left result) }
-        ensures stands { pages pool.old ≢ [] → Stands (pages pool.old) [] result }
+        ensures stands { pages pool.old ≢ [] → ScheduleStands (pages pool.old) [] result }
     {
         let sending = Sending::begin();
         Schedule { pool, sending }
@@ -54,8 +54,8 @@ impl<'a> Schedule<'a> {
         ensures lends { lender self.new ≡ lender self.old }
         ensures gives { slots_left self.old ≡ result ∷ slots_left self.new }
         ensures group { HasGroup result }
-        ensures stands { (accepted : List Page) (given : List Said) → Stands accepted given self.old → Stands accepted (given ++ result ∷ []) self.new }
-        ensures keeps { Keeps (pool_of self.old) (pool_of self.new) }
+        ensures stands { (accepted : List Page) (given : List Said) → ScheduleStands accepted given self.old → ScheduleStands accepted (given ++ result ∷ []) self.new }
+        ensures keeps { KeepsPool (pool_of self.old) (pool_of self.new) }
         ensures heads { steps.new ≡ steps.old + heads_in result }
     {
         self.sending.slot(self.pool, steps)

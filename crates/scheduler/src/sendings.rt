@@ -4,23 +4,18 @@ ghost use Rattle.std.specs.Prelude.{◌≡◌, ◌≢◌, ◌<◌, ◌≤◌, �
 ghost use Rattle.std.specs.List.{find};
 ghost use Rattle.std.specs.Option.{option_map};
 ghost use Rattle.page_text.specs.Page.{Page};
-ghost use Rattle.page_pool.specs.Pool.{IsLive, Live, Names, Sound, Takes, pages};
+ghost use Rattle.page_pool.specs.Pool.{IsLive, Live, Names, Sound, TakesPage, pages};
 ghost use Rattle.page_pool.specs.Pool.{Pool as Waiting};
 ghost use Rattle.scheduler.specs.Said.{AreSlots, HasGroup, heads_in};
 ghost use Rattle.scheduler.specs.declared.slots.Slot.{Slot as Said};
 
 use crate::slots::Slot;
 use arrayvec::ArrayVec;
+use codeword::{FRAME_SLOTS, SLOTS};
 use page_pool::{Pool, Ticket};
 use page_text::{group, word_count};
 use std::sync::ledger::Ledger;
 use wires::steps::Steps;
-
-/// A batch has so many slots (M.584-2).
-const BATCH: u32 = 16;
-
-/// A frame has so many slots (M.584-2).
-const FRAME: u32 = 2;
 
 /// The most characters of a text.
 const LONGEST_TEXT: usize = 400;
@@ -47,16 +42,16 @@ pub struct Sending {
 }
 
 impl Sending {
-    ghost use Rattle.scheduler.specs.Sendings.{Follows, Gives, StandsAt, slots_to_come};
+    ghost use Rattle.scheduler.specs.Sendings.{IsSendingOf, GivesOneSlot, SendingStandsAt, slots_to_come};
     ghost use Rattle.scheduler.specs.Sendings.{IsBetween, IsFirst};
     ghost use Rattle.scheduler.specs.declared.sendings.Before.TheVariants.{InRun, RunEnd};
 
     /// The beginning of a transmission of any pages.
     pub fn begin() -> Sending
-        ensures follows { (w : Waiting) → Follows result w }
+        ensures follows { (w : Waiting) → IsSendingOf result w }
         ensures none { (w : Waiting) → pages w ≡ [] → slots_to_come w result.place result.before ≡ [] }
         ensures slots { (w : Waiting) → pages w ≢ [] → AreSlots (pages w) (slots_to_come w result.place result.before) }
-        ensures stands { (w : Waiting) → pages w ≢ [] → StandsAt (pages w) [] w result.place result.before }
+        ensures stands { (w : Waiting) → pages w ≢ [] → SendingStandsAt (pages w) [] w result.place result.before }
     {
         Sending {
             place: 0,
@@ -67,7 +62,7 @@ impl Sending {
 
     /// Whether the transmission has ended.
     pub fn is_done(&self, pool: &Pool) -> bool
-        requires { Follows self.now pool.now }
+        requires { IsSendingOf self.now pool.now }
         ensures end { IsTrue result ↔ (slots_to_come pool.now self.now.place self.now.before ≡ []) }
         ensures empty { IsTrue result → pages pool.now ≡ [] }
     {
@@ -79,9 +74,9 @@ impl Sending {
 
     /// The next slot.
     pub fn slot<L: Ledger>(&mut self, pool: &mut Pool, steps: &mut Steps<L>) -> Slot
-        requires follows { Follows self.old pool.old }
+        requires follows { IsSendingOf self.old pool.old }
         requires more { slots_to_come pool.old self.old.place self.old.before ≢ [] }
-        ensures gives { Gives result self.old pool.old self.new pool.new }
+        ensures gives { GivesOneSlot result self.old pool.old self.new pool.new }
         ensures heads { steps.new ≡ steps.old + heads_in result }
     {
         match self.before {
@@ -98,9 +93,9 @@ impl Sending {
         frame: u32,
         k: usize,
     ) -> Slot
-        requires follows { Follows self.old pool.old }
+        requires follows { IsSendingOf self.old pool.old }
         requires under_way { self.old.before ≡ InRun frame k }
-        ensures gives { Gives result self.old pool.old self.new pool.new }
+        ensures gives { GivesOneSlot result self.old pool.old self.new pool.new }
         ensures heads { steps.new ≡ steps.old + heads_in result }
     {
         let t = pool.first(frame).unwrap();
@@ -119,13 +114,13 @@ impl Sending {
     /// The next slot where no run is under way: the first waiting page of the slot's frame starts its run. Where none waits, the slot
     /// is idle.
     fn choose<L: Ledger>(&mut self, pool: &mut Pool, steps: &mut Steps<L>) -> Slot
-        requires follows { Follows self.old pool.old }
+        requires follows { IsSendingOf self.old pool.old }
         requires between { IsBetween self.old.before }
         requires more { slots_to_come pool.old self.old.place self.old.before ≢ [] }
-        ensures gives { Gives result self.old pool.old self.new pool.new }
+        ensures gives { GivesOneSlot result self.old pool.old self.new pool.new }
         ensures heads { steps.new ≡ steps.old + heads_in result }
     {
-        let frame = self.place / FRAME;
+        let frame = self.place / FRAME_SLOTS;
         let Some(t) = pool.first(frame) else {
             self.pass(Before::Idle);
             return Slot::Idle;
@@ -136,12 +131,12 @@ impl Sending {
 
     /// The address slot of the first page of a frame. A page without message slots leaves the pool at once.
     fn address(&mut self, pool: &mut Pool, frame: u32, t: Ticket) -> Slot
-        requires follows { Follows self.old pool.old }
+        requires follows { IsSendingOf self.old pool.old }
         requires between { IsBetween self.old.before }
-        requires frame { frame ≡ self.old.place / FRAME }
+        requires frame { frame ≡ self.old.place / FRAME_SLOTS }
         requires sound { Sound pool.old }
         requires first { IsFirst pool.old frame t }
-        ensures gives { Gives result self.old pool.old self.new pool.new }
+        ensures gives { GivesOneSlot result self.old pool.old self.new pool.new }
         ensures heads { heads_in result ≡ 1 }
     {
         let capcode = pool.capcode(t);
@@ -157,10 +152,10 @@ impl Sending {
 
     /// Passes to the next slot behind the last one of a run, whose page leaves the pool.
     fn end(&mut self, pool: &mut Pool, t: Ticket)
-        requires in_batch { self.old.place < BATCH }
+        requires in_batch { self.old.place < SLOTS }
         requires live { IsLive pool.old t }
-        ensures takes { Takes pool.old pool.new t }
-        ensures place { self.new.place ≡ (self.old.place + 1) % BATCH }
+        ensures takes { TakesPage pool.old pool.new t }
+        ensures place { self.new.place ≡ (self.old.place + 1) % SLOTS }
         ensures before { self.new.before ≡ RunEnd }
     {
         pool.take(t);
@@ -169,12 +164,12 @@ impl Sending {
 
     /// Passes to the next slot, behind this one.
     fn pass(&mut self, before: Before)
-        requires { self.old.place < BATCH }
-        ensures place { self.new.place ≡ (self.old.place + 1) % BATCH }
+        requires { self.old.place < SLOTS }
+        ensures place { self.new.place ≡ (self.old.place + 1) % SLOTS }
         ensures before { self.new.before ≡ before }
         ensures text { self.new.text ≡ self.old.text }
     {
-        self.place = (self.place + 1) % BATCH;
+        self.place = (self.place + 1) % SLOTS;
         self.before = before;
     }
 }

@@ -5,13 +5,14 @@ use Rattle.std.proofs.lemmas.List.Folds.{list_any-append}
 use Rattle.std.proofs.lemmas.List.{map-append}
 use Rattle.page_pool.specs.Pool.{Pool}
 use Rattle.subscribers.specs.Parts.{Parts}
-use Rattle.tap_block.specs.Chars.{char_of, characters}
+use Rattle.entry_line.specs.Chars.{char_of}
+use Rattle.tap_block.specs.Chars.{characters}
 use Rattle.tap_terminal.specs.declared.answers.Answer.{Answer}
 use Rattle.tap_terminal.specs.declared.answers.Answer.TheVariants.{Ack, End, Go, Id, Nak, Nothing, Rs}
 use Rattle.tap_terminal.specs.declared.terminal.Stage.{Stage}
 use Rattle.tap_terminal.specs.declared.terminal.Stage.TheVariants.{Open, Ended, Forced}
 use Rattle.subscribers.specs.Directory.{directory_of}
-use Rattle.tap_terminal.specs.Desk.{Desk, IsOver, StandsAt, said, unheard}
+use Rattle.tap_terminal.specs.State.{TerminalState, IsOver, StandsAt, said, unheard}
 use Rattle.tap_terminal.specs.Session.{IsSession, Session, is_end, start, tell}
 use Rattle.wires.specs.Causes.{Rose}
 use Rattle.wires.specs.declared.Failed.{Failed}
@@ -22,7 +23,7 @@ use Rattle.wires.proofs.Written.{no_ok, still}
 use Rattle.serving.specs.Answering.{AnsweredInput, AnsweredToEnd, Answering, AnswersOn, GainedPages, StoppedBroken, StoppedUnprinted}
 use Rattle.serving.specs.declared.answering.Course.{Course}
 use Rattle.serving.specs.Answers.{answer_line, answer_lines}
-use Rattle.serving.specs.Sessions.{SessionOf, StandsFor, has_end}
+use Rattle.serving.specs.Sessions.{SessionOf, TerminalStandsFor, has_end_answer}
 use Rattle.endings.specs.Wrote.{Wrote, WroteFront}
 use Rattle.tap_terminal.proofs.Cells.{cells_gain}
 use Rattle.serving.proofs.Decisions.{Fed, answers_end, few_heard, no_end_on, not_end, pages_on}
@@ -43,7 +44,7 @@ answer_lines-said End = append-nil _
 lines_on : (s t : Session) (a : Answer) → t.answers ≡ s.answers ++ said a → answer_lines t.answers ≡ answer_lines s.answers ++ answer_line a
 lines_on s t a e = ap answer_lines e ∙ (flat_map-append answer_line s.answers (said a) ∙ ap (λ (z : List ℕ). answer_lines s.answers ++ z) (answer_lines-said a))
 
-gained_on : (settings : Parts) (spare : ℕ) (before pool pool2 : Pool) (desk : Desk) (bytes : List ℕ) (byte : ℕ) (session : Session) (a : Answer) → GainedPages session before pool
+gained_on : (settings : Parts) (spare : ℕ) (before pool pool2 : Pool) (desk : TerminalState) (bytes : List ℕ) (byte : ℕ) (session : Session) (a : Answer) → GainedPages session before pool
     → (h : Fed settings spare desk bytes byte session a pool pool2) → GainedPages h.longer before pool2
 gained_on settings spare before pool pool2 desk bytes byte session a g h = record {
   pages_are = pages_on settings spare before pool pool2 desk bytes byte session a g.pages_are h;
@@ -51,7 +52,7 @@ gained_on settings spare before pool pool2 desk bytes byte session a g h = recor
 }
 
 -- a byte that was answered, and whose answer was printed
-abbrev goes : (settings : Parts) (spare : ℕ) (old now : Left ℕ) (before pool pool2 : Pool) (desk desk2 : Desk) (o0 o2 : Written ℕ) (byte : ℕ) (taken ahead : List ℕ) (a : Answer) (o1 : Written ℕ)
+abbrev goes : (settings : Parts) (spare : ℕ) (old now : Left ℕ) (before pool pool2 : Pool) (desk desk2 : TerminalState) (o0 o2 : Written ℕ) (byte : ℕ) (taken ahead : List ℕ) (a : Answer) (o1 : Written ℕ)
     (u : Answering settings spare old now before pool desk o0 o1 taken (byte ∷ ahead)) → Fed settings spare desk2 u.fed byte u.session a pool pool2
     → is_end a ≡ false → Wrote o0 o2 (answer_lines u.session.answers ++ answer_line a) → Answering settings spare old now before pool2 desk2 o0 o2 taken ahead
 goes settings spare old now before pool pool2 desk desk2 o0 o2 byte taken ahead a o1 u h e w = record {
@@ -66,7 +67,7 @@ goes settings spare old now before pool pool2 desk desk2 o0 o2 byte taken ahead 
 }
 
 -- a byte that is answered Nothing
-pub passes : (settings : Parts) (spare : ℕ) (old now : Left ℕ) (before pool pool2 : Pool) (desk desk2 : Desk) (o0 o : Written ℕ) (byte : ℕ) (taken ahead : List ℕ)
+pub passes : (settings : Parts) (spare : ℕ) (old now : Left ℕ) (before pool pool2 : Pool) (desk desk2 : TerminalState) (o0 o : Written ℕ) (byte : ℕ) (taken ahead : List ℕ)
     (u : Answering settings spare old now before pool desk o0 o taken (byte ∷ ahead)) → Fed settings spare desk2 u.fed byte u.session Nothing pool pool2
     → Answering settings spare old now before pool2 desk2 o0 o taken ahead
 passes settings spare old now before pool pool2 desk desk2 o0 o byte taken ahead u h =
@@ -74,7 +75,7 @@ passes settings spare old now before pool pool2 desk desk2 o0 o byte taken ahead
     (subst (λ (z : List ℕ). Wrote o0 o z) (sym (append-nil (answer_lines u.session.answers))) u.wrote)
 
 -- an answer that was printed, and isn't the End
-pub prints_on : {T E : Type 0} (settings : Parts) (spare : ℕ) (old now : Left ℕ) (before pool pool2 : Pool) (desk desk2 : Desk) (o0 o1 o2 : Written ℕ) (byte : ℕ) (taken ahead piece : List ℕ)
+pub prints_on : {T E : Type 0} (settings : Parts) (spare : ℕ) (old now : Left ℕ) (before pool pool2 : Pool) (desk desk2 : TerminalState) (o0 o1 o2 : Written ℕ) (byte : ℕ) (taken ahead piece : List ℕ)
     (a : Answer) (x : T) → (a ≡ End → ⊥) → piece ≡ answer_line a
     → (u : Answering settings spare old now before pool desk o0 o1 taken (byte ∷ ahead)) → Fed settings spare desk2 u.fed byte u.session a pool pool2 → Puts {E = E} o1 o2 piece (Ok x)
     → Answering settings spare old now before pool2 desk2 o0 o2 taken ahead
@@ -83,7 +84,7 @@ prints_on {T} {E} settings spare old now before pool pool2 desk desk2 o0 o1 o2 b
     (Wrote-then {T = T} {E = E} o0 o1 o2 (answer_lines u.session.answers) (answer_line a) x u.wrote (subst (λ (z : List ℕ). Puts {E = E} o1 o2 z (Ok x)) p k))
 
 -- an answer that couldn't be printed
-pub unprinted : {T E : Type 0} (settings : Parts) (spare : ℕ) (old now : Left ℕ) (before pool pool2 : Pool) (desk desk2 : Desk) (o0 o1 o2 : Written ℕ) (byte : ℕ) (taken ahead piece : List ℕ)
+pub unprinted : {T E : Type 0} (settings : Parts) (spare : ℕ) (old now : Left ℕ) (before pool pool2 : Pool) (desk desk2 : TerminalState) (o0 o1 o2 : Written ℕ) (byte : ℕ) (taken ahead piece : List ℕ)
     (a : Answer) (e : E) → piece ≡ answer_line a
     → (u : Answering settings spare old now before pool desk o0 o1 taken (byte ∷ ahead)) → Fed settings spare desk2 u.fed byte u.session a pool pool2 → Puts {T = T} o1 o2 piece (Err e)
     → StoppedUnprinted settings spare old now before pool2 desk2 o0 o2 taken
@@ -107,23 +108,23 @@ yes_no true h k = cc
 yes_no false h k = cc
 
 -- where an End came, nothing that follows changes the session
-over_at : (stage : Stage) (settings : Parts) (spare : ℕ) (t : Desk) (x : List ℕ) (session : Session) (left : ℕ) → has_end session.answers ≡ true
+over_at : (stage : Stage) (settings : Parts) (spare : ℕ) (t : TerminalState) (x : List ℕ) (session : Session) (left : ℕ) → has_end_answer session.answers ≡ true
     → StandsAt stage settings.password (directory_of settings) spare t x session left → IsOver settings.password (directory_of settings) spare x session
 over_at Ended settings spare t x session left e h = h
 over_at Forced settings spare t x session left e h = h
 over_at Open settings spare t x session left e h =
-    absurd (yes_no (has_end session.answers) e (ap (λ (s : Session). has_end s.answers) h.session_is ∙ (answers_end (tell (directory_of settings) (start spare) h.items) ∙ h.no_end)))
+    absurd (yes_no (has_end_answer session.answers) e (ap (λ (s : Session). has_end_answer s.answers) h.session_is ∙ (answers_end (tell (directory_of settings) (start spare) h.items) ∙ h.no_end)))
 
 or_true : (b : Bool) → (b || true) ≡ true
 or_true true = refl
 or_true false = refl
 
-end_among : (s t : Session) (a : Answer) → a ≡ End → t.answers ≡ s.answers ++ said a → has_end t.answers ≡ true
+end_among : (s t : Session) (a : Answer) → a ≡ End → t.answers ≡ s.answers ++ said a → has_end_answer t.answers ≡ true
 end_among s t a is e =
-    ap has_end e ∙ (list_any-append is_end s.answers (said a) ∙ (ap (λ (z : Answer). has_end s.answers || has_end (said z)) is ∙ or_true (has_end s.answers)))
+    ap has_end_answer e ∙ (list_any-append is_end s.answers (said a) ∙ (ap (λ (z : Answer). has_end_answer s.answers || has_end_answer (said z)) is ∙ or_true (has_end_answer s.answers)))
 
 -- the End that was printed
-pub ends : {T E : Type 0} (settings : Parts) (spare : ℕ) (old now : Left ℕ) (before pool pool2 : Pool) (desk desk2 : Desk) (o0 o1 o2 : Written ℕ) (byte : ℕ) (taken ahead piece : List ℕ)
+pub ends : {T E : Type 0} (settings : Parts) (spare : ℕ) (old now : Left ℕ) (before pool pool2 : Pool) (desk desk2 : TerminalState) (o0 o1 o2 : Written ℕ) (byte : ℕ) (taken ahead piece : List ℕ)
     (a : Answer) (x : T) → a ≡ End → piece ≡ answer_line a
     → (u : Answering settings spare old now before pool desk o0 o1 taken (byte ∷ ahead)) → Fed settings spare desk2 u.fed byte u.session a pool pool2 → Puts {E = E} o1 o2 piece (Ok x)
     → AnsweredToEnd settings spare old now before pool2 desk2 o0 o2 taken
@@ -144,7 +145,7 @@ ends {T} {E} settings spare old now before pool pool2 desk desk2 o0 o1 o2 byte t
     }
 
 -- a session begins
-pub begins : (settings : Parts) (old : Left ℕ) (pool : Pool) (desk : Desk) (o : Written ℕ) → StandsFor settings pool.spare desk [] unheard pool.spare
+pub begins : (settings : Parts) (old : Left ℕ) (pool : Pool) (desk : TerminalState) (o : Written ℕ) → TerminalStandsFor settings pool.spare desk [] unheard pool.spare
     → Answering settings pool.spare old old pool pool desk o o [] []
 begins settings old pool desk o s = record {
   fed = [];
@@ -158,18 +159,18 @@ begins settings old pool desk o s = record {
 }
 
 -- all that was taken was fed
-all_fed : (settings : Parts) (spare : ℕ) (old now : Left ℕ) (before pool : Pool) (desk : Desk) (o0 o : Written ℕ) (taken : List ℕ)
+all_fed : (settings : Parts) (spare : ℕ) (old now : Left ℕ) (before pool : Pool) (desk : TerminalState) (o0 o : Written ℕ) (taken : List ℕ)
     (u : Answering settings spare old now before pool desk o0 o taken []) → u.fed ≡ taken
 all_fed settings spare old now before pool desk o0 o taken u = sym (u.taken_is ∙ append-nil u.fed)
 
-session_now : (settings : Parts) (spare : ℕ) (old now : Left ℕ) (before pool : Pool) (desk : Desk) (o0 o : Written ℕ) (taken : List ℕ)
+session_now : (settings : Parts) (spare : ℕ) (old now : Left ℕ) (before pool : Pool) (desk : TerminalState) (o0 o : Written ℕ) (taken : List ℕ)
     (u : Answering settings spare old now before pool desk o0 o taken []) → SessionOf settings spare taken u.session
 session_now settings spare old now before pool desk o0 o taken u =
     subst (λ (z : List ℕ). SessionOf settings spare z u.session) (all_fed settings spare old now before pool desk o0 o taken u)
     (session_stood settings spare desk u.fed u.session pool.spare u.stands)
 
 -- bytes were taken
-pub takes_more : {E : Type 0} (settings : Parts) (spare : ℕ) (old now next : Left ℕ) (before pool : Pool) (desk : Desk) (o0 o : Written ℕ) (taken buffer : List ℕ) (n : ℕ)
+pub takes_more : {E : Type 0} (settings : Parts) (spare : ℕ) (old now next : Left ℕ) (before pool : Pool) (desk : TerminalState) (o0 o : Written ℕ) (taken buffer : List ℕ) (n : ℕ)
     → Answering settings spare old now before pool desk o0 o taken [] → Takes {E = E} now next buffer (Ok n)
     → Answering settings spare old next before pool desk o0 o (taken ++ take n buffer) (take n buffer)
 takes_more settings spare old now next before pool desk o0 o taken buffer n u t = record {
@@ -184,7 +185,7 @@ takes_more settings spare old now next before pool desk o0 o taken buffer n u t 
 }
 
 -- nothing was left
-pub answered_all : {E : Type 0} (settings : Parts) (spare : ℕ) (old now next : Left ℕ) (before pool : Pool) (desk : Desk) (o0 o : Written ℕ) (taken buffer : List ℕ) (n : ℕ) → n ≡ 0
+pub answered_all : {E : Type 0} (settings : Parts) (spare : ℕ) (old now next : Left ℕ) (before pool : Pool) (desk : TerminalState) (o0 o : Written ℕ) (taken buffer : List ℕ) (n : ℕ) → n ≡ 0
     → Answering settings spare old now before pool desk o0 o taken [] → Takes {E = E} now next buffer (Ok n) → AnsweredInput settings spare old next before pool desk o0 o
 answered_all {E} settings spare old now next before pool desk o0 o taken buffer n z u t =
     let more = takes_more {E = E} settings spare old now next before pool desk o0 o taken buffer n u t in
@@ -205,7 +206,7 @@ answered_all {E} settings spare old now next before pool desk o0 o taken buffer 
     }
 
 -- an End came
-pub answered_to_end : (settings : Parts) (spare : ℕ) (old now : Left ℕ) (before pool : Pool) (desk : Desk) (o0 o : Written ℕ) (taken : List ℕ)
+pub answered_to_end : (settings : Parts) (spare : ℕ) (old now : Left ℕ) (before pool : Pool) (desk : TerminalState) (o0 o : Written ℕ) (taken : List ℕ)
     → AnsweredToEnd settings spare old now before pool desk o0 o taken → AnsweredInput settings spare old now before pool desk o0 o
 answered_to_end settings spare old now before pool desk o0 o taken h = record {
   taken = taken;
@@ -218,7 +219,7 @@ answered_to_end settings spare old now before pool desk o0 o taken h = record {
 }
 
 -- a read failed
-pub answered_broken : {E : Type 0} (settings : Parts) (spare : ℕ) (old now next : Left ℕ) (before pool : Pool) (desk : Desk) (o0 o : Written ℕ) (taken buffer : List ℕ) (e : E)
+pub answered_broken : {E : Type 0} (settings : Parts) (spare : ℕ) (old now next : Left ℕ) (before pool : Pool) (desk : TerminalState) (o0 o : Written ℕ) (taken buffer : List ℕ) (e : E)
     → Answering settings spare old now before pool desk o0 o taken [] → Takes now next buffer (Err e) → StoppedBroken settings spare old next before pool desk o0 o
 answered_broken {E} settings spare old now next before pool desk o0 o taken buffer e u t = record {
   broken = record {
@@ -236,19 +237,19 @@ answered_broken {E} settings spare old now next before pool desk o0 o taken buff
 }
 
 -- a session under way has few characters
-pub few_taken : (settings : Parts) (spare : ℕ) (old now : Left ℕ) (before pool : Pool) (desk : Desk) (o0 o : Written ℕ) (taken : List ℕ)
+pub few_taken : (settings : Parts) (spare : ℕ) (old now : Left ℕ) (before pool : Pool) (desk : TerminalState) (o0 o : Written ℕ) (taken : List ℕ)
     (u : Answering settings spare old now before pool desk o0 o taken []) → length taken ≤ 999999
 few_taken settings spare old now before pool desk o0 o taken u =
     few_heard settings spare taken u.session (session_now settings spare old now before pool desk o0 o taken u) u.no_end
 
 -- what holds by the course that was answered, under settings that stay
-pub course_ends : (settings then : Parts) (spare : ℕ) (old now : Left ℕ) (before pool : Pool) (desk : Desk) (o0 o : Written ℕ) (taken ahead : List ℕ) (r : Course)
+pub course_ends : (settings then : Parts) (spare : ℕ) (old now : Left ℕ) (before pool : Pool) (desk : TerminalState) (o0 o : Written ℕ) (taken ahead : List ℕ) (r : Course)
     → r ≡ Course.Ended → then ≡ settings → AnswersOn {E = Failed} then spare old now before pool desk o0 o taken ahead (Ok r) → AnsweredToEnd settings spare old now before pool desk o0 o taken
 course_ends settings then spare old now before pool desk o0 o taken ahead r e s h =
     subst (λ (p : Parts). AnsweredToEnd p spare old now before pool desk o0 o taken) s
     (subst (λ (z : Course). AnswersOn {E = Failed} then spare old now before pool desk o0 o taken ahead (Ok z)) e h)
 
-pub course_goes : (settings then : Parts) (spare : ℕ) (old now : Left ℕ) (before pool : Pool) (desk : Desk) (o0 o : Written ℕ) (taken ahead : List ℕ) (r : Course)
+pub course_goes : (settings then : Parts) (spare : ℕ) (old now : Left ℕ) (before pool : Pool) (desk : TerminalState) (o0 o : Written ℕ) (taken ahead : List ℕ) (r : Course)
     → r ≡ Course.GoesOn → then ≡ settings → AnswersOn {E = Failed} then spare old now before pool desk o0 o taken ahead (Ok r) → Answering settings spare old now before pool desk o0 o taken ahead
 course_goes settings then spare old now before pool desk o0 o taken ahead r e s h =
     subst (λ (p : Parts). Answering p spare old now before pool desk o0 o taken ahead) s

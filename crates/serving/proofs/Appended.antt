@@ -2,7 +2,7 @@
 use Rattle.std.proofs.Common.{◌≡◌, ℕ, ◌+◌, ◌*◌, Bool, true, false, List, [], ◌∷◌, length, drop, Result, OnOk, IsTrue, subst, ap}
 use Rattle.std.specs.Prelude.{if◌then◌else◌}
 use Rattle.std.specs.Borrow.{GName}
-use Rattle.air.specs.Sends.{Sends}
+use Rattle.air.specs.Sends.{SendsTransmission}
 use Rattle.bits.specs.Bits.{bytes_bits}
 use Rattle.page_pool.specs.Pool.{Pool, cells, pages}
 use Rattle.wires.proofs.Below.{file_keeps}
@@ -30,7 +30,7 @@ told_back false c x y e t h = absurd cc
 
 -- what was written over a file was appended to it
 pub sends_to : {T E : Type 0} (n m a b : GName) (name name2 : List ℕ) (old new : Files) (before after : Pool) (r : Result T E)
-    → Sends (pages before) (bits_over n (file_over a name old)) (bits_over m (file_over b name2 new)) r → OnOk r (after.live ≡ []) → cells after ≡ cells before → SendsTo before after old new name r
+    → SendsTransmission (pages before) (bits_over n (file_over a name old)) (bits_over m (file_over b name2 new)) r → OnOk r (after.live ≡ []) → cells after ≡ cells before → SendsTo before after old new name r
 sends_to n m a b name name2 old new before after r h none same =
     let e : (file_over b name2 new).lent ≡ (file_over a name old).lent = ap (λ (ls : List Held). drop 2 ls) h.puts.lent in
     let f : name2 ≡ name = ap name_of e in

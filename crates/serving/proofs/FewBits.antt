@@ -8,7 +8,8 @@ use Rattle.page_pool.specs.Pool.{Live, Pool, Sound, pages}
 use Rattle.scheduler.specs.Slots.{run}
 use Rattle.scheduler.proofs.Schedules.{few_slots}
 use Rattle.scheduler.proofs.Standing.{length-live, runs-live}
-use Rattle.air.specs.Air.{IsAir, batches, filler, preamble, transmission}
+use Rattle.codeword.specs.Words.{filler}
+use Rattle.air.specs.Air.{IsAir, batches, preamble, transmission}
 use Rattle.air.proofs.Batches.{length-batches}
 
 few : (accepted : List Page) (bits : List Bool) → length accepted ≤ 65536 → sum_by (λ page. length (run page)) accepted ≤ 141 * length accepted → IsAir accepted bits → length bits < 2 ^ 32

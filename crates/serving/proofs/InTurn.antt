@@ -11,9 +11,9 @@ use Rattle.wires.specs.Held.{Connection}
 use Rattle.wires.specs.Line.{IsBlank, Keeps, Line, last}
 use Rattle.serving.specs.declared.session.SessionEnd.{SessionEnd}
 use Rattle.serving.specs.declared.session.SessionEnd.TheVariants.{HungUp, LineLost}
-use Rattle.serving.specs.InTurn.{IsAt, LostRaises, WireAfter}
+use Rattle.serving.specs.InTurn.{SessionIsAt, LostRaises, WireAfter}
 use Rattle.serving.specs.Served.{AllFrom, OpenedNext, Served, ServedInTurn}
-use Rattle.serving.specs.Sessions.{Stop, Stops, deaf, decided, mute, silent, told}
+use Rattle.serving.specs.Sessions.{SessionStop, SessionStops, hear_failed, end_decided, say_failed, silent, told}
 use Rattle.endings.specs.Talk.{Grew, here}
 use Rattle.serving.proofs.Stops.{not_lost}
 
@@ -74,24 +74,24 @@ pub same_on : {settings : Parts} {spare : ℕ} (whole first : Line) (k : ℕ) (s
 same_on whole first k s o t at same = λ j le. session_others first s o t j (λ e. omega (arith, e, at, le)) ∙ same j (omega (arith, le))
 
 -- an end that the terminal decided is no hang-up
-not_hung_up : (forced : Bool) → decided forced ≢ HungUp
+not_hung_up : (forced : Bool) → end_decided forced ≢ HungUp
 not_hung_up true e = absurd cc
 not_hung_up false e = absurd cc
 
-mute_not_hung_up : (b forced : Bool) → (if b then decided forced else LineLost) ≢ HungUp
+mute_not_hung_up : (b forced : Bool) → (if b then end_decided forced else LineLost) ≢ HungUp
 mute_not_hung_up true forced e = not_hung_up forced e
 mute_not_hung_up false forced e = absurd cc
 
 -- a session that ended because nothing was left was fed all
-all_fed : (settings : Parts) (spare : ℕ) (old new : Line) (heard fed said : List ℕ) (session : Session) (end : SessionEnd) (stop : Stop) → IsTrue old.tells → IsTrue old.is_open → Stops settings spare old new heard fed said session end stop
+all_fed : (settings : Parts) (spare : ℕ) (old new : Line) (heard fed said : List ℕ) (session : Session) (end : SessionEnd) (stop : SessionStop) → IsTrue old.tells → IsTrue old.is_open → SessionStops settings spare old new heard fed said session end stop
     → end ≡ HungUp → fed ≡ (here old).rest
 all_fed settings spare old new heard fed said session end silent t o h e = h.all ∙ sym (h.nothing_left t o)
-all_fed settings spare old new heard fed said session end deaf t o h e = let bad : LineLost ≡ HungUp = sym h.end_is ∙ e in absurd cc
+all_fed settings spare old new heard fed said session end hear_failed t o h e = let bad : LineLost ≡ HungUp = sym h.end_is ∙ e in absurd cc
 all_fed settings spare old new heard fed said session end (told answer) t o h e = absurd (not_hung_up session.forced (sym h.end_is ∙ e))
-all_fed settings spare old new heard fed said session end (mute answer n) t o h e = absurd (mute_not_hung_up (is_end answer) session.forced (sym h.end_is ∙ e))
+all_fed settings spare old new heard fed said session end (say_failed answer n) t o h e = absurd (mute_not_hung_up (is_end answer) session.forced (sym h.end_is ∙ e))
 
 at_each : {settings : Parts} {spare : ℕ} (whole first now : Line) (k : ℕ) (ss : List (Served settings spare)) → first.count ≡ whole.count → first.opened ≡ k → SameFrom k whole first → IsTrue first.tells → ServedInTurn first now ss
-    → AllFrom (IsAt whole now) k ss
+    → AllFrom (SessionIsAt whole now) k ss
 at_each whole first now k [] count at same t h = tt
 at_each {settings} {spare} whole first now k (s ∷ ss) count at same t h =
     let keeps = session_keeps first s h.0 in
@@ -117,7 +117,7 @@ at_each {settings} {spare} whole first now k (s ∷ ss) count at same t h =
       at_each whole s.after now (k + 1) ss (keeps.count ∙ count) (omega (arith, one, at)) (same_on whole first k s h.0 t at same) (still keeps.tells t) h.1,
     )
 
-pub turn-served : {settings : Parts} {spare : ℕ} (first now : Line) (ss : List (Served settings spare)) → ServedInTurn first now ss → IsTrue first.tells → AllFrom (IsAt first now) first.opened ss
+pub turn-served : {settings : Parts} {spare : ℕ} (first now : Line) (ss : List (Served settings spare)) → ServedInTurn first now ss → IsTrue first.tells → AllFrom (SessionIsAt first now) first.opened ss
 turn-served first now ss h t = at_each first first now first.opened ss refl refl (λ j le. refl) t h
 
 pub turn-shut : {settings : Parts} {spare : ℕ} (first now : Line) (ss : List (Served settings spare)) → ServedInTurn first now ss → IsTrue first.tells → (0 < length ss ⊎ IsFalse first.is_open) → IsFalse now.is_open
@@ -178,18 +178,18 @@ pub record LineWent (old new : Line) : Type 0 where
 line_then : (a b c : Line) → LineWent a b → LineWent b c → LineWent a c
 line_then a b c h k = record { hear = went_then a.hear b.hear c.hear h.hear k.hear; say = went_then a.say b.say c.say h.say k.say }
 
-stops_went : (settings : Parts) (spare : ℕ) (old new : Line) (heard fed said : List ℕ) (session : Session) (end : SessionEnd) (stop : Stop) → Stops settings spare old new heard fed said session end stop → LineWent old new
+stops_went : (settings : Parts) (spare : ℕ) (old new : Line) (heard fed said : List ℕ) (session : Session) (end : SessionEnd) (stop : SessionStop) → SessionStops settings spare old new heard fed said session end stop → LineWent old new
 stops_went settings spare old new heard fed said session end silent h = record { hear = inl h.hear; say = inl h.say }
-stops_went settings spare old new heard fed said session end deaf h = record { hear = inr h.hear; say = inl h.say }
+stops_went settings spare old new heard fed said session end hear_failed h = record { hear = inr h.hear; say = inl h.say }
 stops_went settings spare old new heard fed said session end (told answer) h = record { hear = inl h.hear; say = inl h.say }
-stops_went settings spare old new heard fed said session end (mute answer n) h = record { hear = inl h.hear; say = inr h.say }
+stops_went settings spare old new heard fed said session end (say_failed answer n) h = record { hear = inl h.hear; say = inr h.say }
 
-stops_lost : (settings : Parts) (spare : ℕ) (old new : Line) (heard fed said : List ℕ) (session : Session) (end : SessionEnd) (stop : Stop) → Stops settings spare old new heard fed said session end stop
+stops_lost : (settings : Parts) (spare : ℕ) (old new : Line) (heard fed said : List ℕ) (session : Session) (end : SessionEnd) (stop : SessionStop) → SessionStops settings spare old new heard fed said session end stop
     → end ≡ LineLost → Rose old.hear new.hear ⊎ Rose old.say new.say
 stops_lost settings spare old new heard fed said session end silent h e = let bad : HungUp ≡ LineLost = sym h.end_is ∙ e in absurd cc
-stops_lost settings spare old new heard fed said session end deaf h e = inl h.hear
+stops_lost settings spare old new heard fed said session end hear_failed h e = inl h.hear
 stops_lost settings spare old new heard fed said session end (told answer) h e = absurd (not_lost session.forced (sym h.end_is ∙ e))
-stops_lost settings spare old new heard fed said session end (mute answer n) h e = inr h.say
+stops_lost settings spare old new heard fed said session end (say_failed answer n) h e = inr h.say
 
 -- waits change none of them
 went_wait : {settings : Parts} {spare : ℕ} (first : Line) (s : Served settings spare) → OpenedNext first s.before → LineWent first s.before

@@ -7,7 +7,7 @@ use Rattle.page_pool.specs.Pool.{Live, Pool, cells, in_use, pages}
 use Rattle.page_text.specs.Page.{Page}
 use Rattle.subscribers.specs.Parts.{Parts}
 use Rattle.tap_terminal.specs.declared.report.Report.{Report}
-use Rattle.tap_terminal.specs.Desk.{Desk}
+use Rattle.tap_terminal.specs.State.{TerminalState}
 use Rattle.wires.proofs.Written.{no_ok, still}
 use Rattle.wires.specs.Causes.{Rose}
 use Rattle.wires.specs.Files.{Files, Freshens, SameAt}
@@ -15,18 +15,18 @@ use Rattle.wires.specs.Line.{Line, Listens, Opens}
 use Rattle.wires.specs.Stacked.{are_bytes}
 use Rattle.wires.specs.Written.{AppendsFront, Puts, Written}
 use Rattle.serving.specs.declared.session.SessionEnd.{SessionEnd}
-use Rattle.serving.specs.Hall.{Hall}
+use Rattle.serving.specs.StationState.{StationState}
 use Rattle.serving.specs.Leaves.{desk_after}
 use Rattle.serving.specs.ReportLine.{longest_line, report_line}
 use Rattle.serving.specs.Served.{FileAfter, FitOut, FitShelf, Served, airs, line_for, lines}
 use Rattle.serving.specs.Serving.{Around, AtAppendFault, AtDone, AtFreshFault, AtOutFault, AtWireFault, SendsTo, SoFar}
-use Rattle.serving.specs.Sessions.{Closes, Ran, StandsFor}
+use Rattle.serving.specs.Sessions.{Closes, Ran, TerminalStandsFor}
 use Rattle.serving.proofs.Connections.{airs-append, came, lines-append, listened, next_failed, none_came, turn-append, turn-wait}
 use Rattle.serving.proofs.InTurn.{turn-keeps, turn-shut}
 use Rattle.serving.proofs.WholeSessions.{turn-while_fit}
 
 -- a session that was served and sent
-abbrev pub made : {T E : Type 0} (settings : Parts) (spare : ℕ) (mid after : Line) (empty pool pool2 : Pool) (desk : Desk) (end : SessionEnd) (f f2 : Files) (name : List ℕ) (r : Result T E)
+abbrev pub made : {T E : Type 0} (settings : Parts) (spare : ℕ) (mid after : Line) (empty pool pool2 : Pool) (desk : TerminalState) (end : SessionEnd) (f f2 : Files) (name : List ℕ) (r : Result T E)
     → empty.live ≡ [] → Ran settings spare mid after empty pool desk end → Closes settings spare mid after → SendsTo pool pool2 f f2 name r → Served settings spare
 made settings spare mid after empty pool pool2 desk end f f2 name r none ran closes sends = record {
   before = mid;
@@ -51,22 +51,22 @@ front_at true old new piece h = let k = h refl in (k.0, λ _. k.2)
 front_at false old new piece h = (0, λ f. cc)
 
 -- the session of a station whose fields are these
-pub ran_here : (settings : Parts) (spare : ℕ) (mid after : Line) (was now now2 : Hall) (end : SessionEnd) → was.settings ≡ settings → was.pool.spare ≡ spare → now ≡ now2
+pub ran_here : (settings : Parts) (spare : ℕ) (mid after : Line) (was now now2 : StationState) (end : SessionEnd) → was.settings ≡ settings → was.pool.spare ≡ spare → now ≡ now2
     → Ran was.settings was.pool.spare mid after was.pool now2.pool now2.desk end → Ran settings spare mid after was.pool now.pool now.desk end
 ran_here settings spare mid after was now now2 end e s v ran =
     subst (λ (k : Parts). Ran k spare mid after was.pool now.pool now.desk end) e
     (subst (λ (n : ℕ). Ran was.settings n mid after was.pool now.pool now.desk end) s
-    (subst (λ (h : Hall). Ran was.settings was.pool.spare mid after was.pool h.pool h.desk end) (sym v) ran))
+    (subst (λ (h : StationState). Ran was.settings was.pool.spare mid after was.pool h.pool h.desk end) (sym v) ran))
 
-pub closes_here : (settings : Parts) (spare : ℕ) (mid after : Line) (was : Hall) → was.settings ≡ settings → was.pool.spare ≡ spare → Closes was.settings was.pool.spare mid after → Closes settings spare mid after
+pub closes_here : (settings : Parts) (spare : ℕ) (mid after : Line) (was : StationState) → was.settings ≡ settings → was.pool.spare ≡ spare → Closes was.settings was.pool.spare mid after → Closes settings spare mid after
 closes_here settings spare mid after was e s closes = subst (λ (k : Parts). Closes k spare mid after) e (subst (λ (n : ℕ). Closes was.settings n mid after) s closes)
 
 -- and its terminal stands for it
-pub stands_here : (settings : Parts) (spare : ℕ) (mid after : Line) (before : Pool) (now now2 : Hall) (end : SessionEnd) → now2.settings ≡ settings → now ≡ now2 → (ran : Ran settings spare mid after before now.pool now.desk end)
-    → StandsFor now2.settings spare now2.desk ran.fed ran.session now.pool.spare
+pub stands_here : (settings : Parts) (spare : ℕ) (mid after : Line) (before : Pool) (now now2 : StationState) (end : SessionEnd) → now2.settings ≡ settings → now ≡ now2 → (ran : Ran settings spare mid after before now.pool now.desk end)
+    → TerminalStandsFor now2.settings spare now2.desk ran.fed ran.session now.pool.spare
 stands_here settings spare mid after before now now2 end e v ran =
-    subst (λ (k : Parts). StandsFor k spare now2.desk ran.fed ran.session now.pool.spare) (sym e)
-    (subst (λ (h : Hall). StandsFor settings spare h.desk ran.fed ran.session now.pool.spare) v ran.stands)
+    subst (λ (k : Parts). TerminalStandsFor k spare now2.desk ran.fed ran.session now.pool.spare) (sym e)
+    (subst (λ (h : StationState). TerminalStandsFor settings spare h.desk ran.fed ran.session now.pool.spare) v ran.stands)
 
 -- what `next` answered
 pub opened_so : {E : Type 0} (was mid : Line) (b v : Bool) → b ≡ v → Opens {E = E} was mid (Ok b) → Opens {E = E} was mid (Ok v)
@@ -122,7 +122,7 @@ append_fits settings spare most first w f f2 o address name pool pool1 pool2 r s
     omega (arith, total, split, room)
 
 -- the append failed
-abbrev pub at_append_fault : {T E F : Type 0} (settings : Parts) (spare most : ℕ) (first : Around) (w mid after : Line) (f f2 : Files) (o : Written ℕ) (address name : List ℕ) (empty pool pool2 : Pool) (desk : Desk) (end : SessionEnd) (e : E) (ss : List (Served settings spare))
+abbrev pub at_append_fault : {T E F : Type 0} (settings : Parts) (spare most : ℕ) (first : Around) (w mid after : Line) (f f2 : Files) (o : Written ℕ) (address name : List ℕ) (empty pool pool2 : Pool) (desk : TerminalState) (end : SessionEnd) (e : E) (ss : List (Served settings spare))
     → SoFar first (record { wire = w; shelf = f; out = o }) address name most empty ss → length ss + 1 ≤ most → Opens {E = F} w mid (Ok true) → Ran settings spare mid after empty pool desk end → Closes settings spare mid after
     → SendsTo {T = T} pool pool2 f f2 name (Err e) → AtAppendFault settings spare first (record { wire = after; shelf = f2; out = o }) address name most
 at_append_fault {T} {E} settings spare most first w mid after f f2 o address name empty pool pool2 desk end e ss so few h ran closes sends =
@@ -188,7 +188,7 @@ line_fits settings spare most first w f o address name pool ss line so few short
     omega (arith, room, so.short, few, short, fit.fits)
 
 -- putting the line failed
-abbrev pub at_out_fault : {T U E F G : Type 0} (settings : Parts) (spare most : ℕ) (first : Around) (w mid after : Line) (f f2 : Files) (o o2 : Written ℕ) (address name : List ℕ) (empty pool pool2 : Pool) (desk : Desk) (end : SessionEnd) (report : Report) (number : ℕ) (x : T) (e : E) (ss : List (Served settings spare))
+abbrev pub at_out_fault : {T U E F G : Type 0} (settings : Parts) (spare most : ℕ) (first : Around) (w mid after : Line) (f f2 : Files) (o o2 : Written ℕ) (address name : List ℕ) (empty pool pool2 : Pool) (desk : TerminalState) (end : SessionEnd) (report : Report) (number : ℕ) (x : T) (e : E) (ss : List (Served settings spare))
     → SoFar first (record { wire = w; shelf = f; out = o }) address name most empty ss → length ss + 1 ≡ number → number ≤ most → Opens {E = F} w mid (Ok true) → (ran : Ran settings spare mid after empty pool desk end) → Closes settings spare mid after
     → SendsTo {E = G} pool pool2 f f2 name (Ok x) → report ≡ ran.session.report → length (report_line number end report) ≤ longest_line → Puts {T = U} o o2 (report_line number end report) (Err e)
     → AtOutFault settings spare first (record { wire = after; shelf = f2; out = o2 }) address name most
@@ -230,12 +230,12 @@ pub all_spare : (pool : Pool) → pool.live ≡ [] → cells pool ≡ pool.spare
 all_spare pool none = let e : in_use pool.live ≡ 0 = ap in_use none in omega (arith, e)
 
 -- the terminal after one session more
-pub last_desk : {settings : Parts} {spare : ℕ} (first : Desk) (ss : List (Served settings spare)) (s : Served settings spare) → desk_after first (ss ++ s ∷ []) ≡ s.desk
+pub last_desk : {settings : Parts} {spare : ℕ} (first : TerminalState) (ss : List (Served settings spare)) (s : Served settings spare) → desk_after first (ss ++ s ∷ []) ≡ s.desk
 last_desk first [] s = refl
 last_desk first (x ∷ ss) s = last_desk x.desk ss s
 
 -- one session more was served, sent and reported
-pub one_more : {T U E F G : Type 0} (settings : Parts) (spare most : ℕ) (first : Around) (w mid after : Line) (f f2 : Files) (o o2 : Written ℕ) (address name : List ℕ) (empty pool pool2 : Pool) (desk : Desk) (end : SessionEnd) (report : Report) (number : ℕ) (x : T) (y : U) (begun : Desk) (ss : List (Served settings spare))
+pub one_more : {T U E F G : Type 0} (settings : Parts) (spare most : ℕ) (first : Around) (w mid after : Line) (f f2 : Files) (o o2 : Written ℕ) (address name : List ℕ) (empty pool pool2 : Pool) (desk : TerminalState) (end : SessionEnd) (report : Report) (number : ℕ) (x : T) (y : U) (begun : TerminalState) (ss : List (Served settings spare))
     → SoFar first (record { wire = w; shelf = f; out = o }) address name most empty ss → length ss + 1 ≡ number → number ≤ most → Opens {E = F} w mid (Ok true) → (ran : Ran settings spare mid after empty pool desk end) → Closes settings spare mid after
     → SendsTo {E = G} pool pool2 f f2 name (Ok x) → report ≡ ran.session.report → length (report_line number end report) ≤ longest_line → Puts {E = E} o o2 (report_line number end report) (Ok y)
     → (sessions : List (Served settings spare)) × SoFar first (record { wire = after; shelf = f2; out = o2 }) address name most pool2 sessions × (desk ≡ desk_after begun sessions)

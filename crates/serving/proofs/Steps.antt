@@ -8,12 +8,12 @@ use Rattle.tap_terminal.proofs.Feeds.{stands_session}
 use Rattle.tap_terminal.specs.declared.answers.Answer.{Answer}
 use Rattle.tap_terminal.specs.declared.answers.Answer.TheVariants.{End, Nothing}
 use Rattle.subscribers.specs.Directory.{directory_of}
-use Rattle.tap_terminal.specs.Desk.{Desk, Stands, said, unheard}
+use Rattle.tap_terminal.specs.State.{TerminalState, Stands, said, unheard}
 use Rattle.tap_terminal.specs.Replies.{replies, reply_of}
 use Rattle.tap_terminal.specs.Session.{Session, is_end}
 use Rattle.wires.specs.Held.{Connection}
 use Rattle.wires.specs.Line.{Hears, Line, Says, last}
-use Rattle.serving.specs.Sessions.{Fits, IsTurn, SessionOf, StandsFor, UnderWay}
+use Rattle.serving.specs.Sessions.{HasRoomForReplies, IsTurn, SessionOf, TerminalStandsFor, SessionUnderWay}
 use Rattle.wires.specs.Fronts.{IsFront}
 use Rattle.endings.specs.Talk.{Calm, Talked, here}
 use Rattle.tap_block.proofs.Characters.{characters_on}
@@ -24,7 +24,7 @@ use Rattle.endings.proofs.Lists.{all-append, all-map}
 use Rattle.endings.proofs.Talks.{calm_hears, calm_nothing, calm_says, talked_hears, talked_nothing, talked_says}
 
 -- the session that a terminal stands for
-pub session_stood : (settings : Parts) (spare : ℕ) (desk : Desk) (bytes : List ℕ) (session : Session) (left : ℕ) → StandsFor settings spare desk bytes session left → SessionOf settings spare bytes session
+pub session_stood : (settings : Parts) (spare : ℕ) (desk : TerminalState) (bytes : List ℕ) (session : Session) (left : ℕ) → TerminalStandsFor settings spare desk bytes session left → SessionOf settings spare bytes session
 session_stood settings spare desk bytes session left h = stands_session settings.password (directory_of settings) spare desk (characters bytes) session left h
 
 -- turns stay turns when more is heard and said
@@ -41,16 +41,16 @@ turns_on settings spare c heard said heard2 said2 turns f g h = all-map (IsTurn 
 }) turns h
 
 -- the terminal stands for one byte more
-pub stands_on : (settings : Parts) (spare : ℕ) (desk : Desk) (bytes : List ℕ) (byte : ℕ) (session : Session) (a : Answer) (pool pool2 : Pool) (h : Fed settings spare desk bytes byte session a pool pool2)
-    → StandsFor settings spare desk (bytes ++ byte ∷ []) h.longer pool2.spare
+pub stands_on : (settings : Parts) (spare : ℕ) (desk : TerminalState) (bytes : List ℕ) (byte : ℕ) (session : Session) (a : Answer) (pool pool2 : Pool) (h : Fed settings spare desk bytes byte session a pool pool2)
+    → TerminalStandsFor settings spare desk (bytes ++ byte ∷ []) h.longer pool2.spare
 stands_on settings spare desk bytes byte session a pool pool2 h =
     subst (λ (x : List ℕ). Stands settings.password (directory_of settings) spare desk x h.longer pool2.spare) (sym (characters_on bytes byte)) h.stands
 
 -- a byte was answered, and the session goes on
-answered : (settings : Parts) (spare : ℕ) (old mid now : Line) (before pool pool2 : Pool) (desk desk2 : Desk) (byte : ℕ) (heard ahead : List ℕ) (a : Answer)
-    (u : UnderWay settings spare old mid before pool desk heard (byte ∷ ahead)) → Fed settings spare desk2 u.fed byte u.session a pool pool2
+answered : (settings : Parts) (spare : ℕ) (old mid now : Line) (before pool pool2 : Pool) (desk desk2 : TerminalState) (byte : ℕ) (heard ahead : List ℕ) (a : Answer)
+    (u : SessionUnderWay settings spare old mid before pool desk heard (byte ∷ ahead)) → Fed settings spare desk2 u.fed byte u.session a pool pool2
     → is_end a ≡ false → Talked old now heard (replies u.session.answers ++ reply_of a) u.turns → Calm old now (replies u.session.answers ++ reply_of a) → now.is_open ≡ mid.is_open → now.hang ≡ mid.hang
-    → UnderWay settings spare old now before pool2 desk2 heard ahead
+    → SessionUnderWay settings spare old now before pool2 desk2 heard ahead
 answered settings spare old mid now before pool pool2 desk desk2 byte heard ahead a u h e t m o g =
     let says = replies_on u.session h.longer a h.answers_are in
     record {
@@ -71,18 +71,18 @@ answered settings spare old mid now before pool pool2 desk desk2 byte heard ahea
     }
 
 -- a byte that is answered Nothing
-pub quiet : (settings : Parts) (spare : ℕ) (old mid : Line) (before pool pool2 : Pool) (desk desk2 : Desk) (byte : ℕ) (heard ahead : List ℕ)
-    (u : UnderWay settings spare old mid before pool desk heard (byte ∷ ahead)) → Fed settings spare desk2 u.fed byte u.session Nothing pool pool2
-    → UnderWay settings spare old mid before pool2 desk2 heard ahead
+pub quiet : (settings : Parts) (spare : ℕ) (old mid : Line) (before pool pool2 : Pool) (desk desk2 : TerminalState) (byte : ℕ) (heard ahead : List ℕ)
+    (u : SessionUnderWay settings spare old mid before pool desk heard (byte ∷ ahead)) → Fed settings spare desk2 u.fed byte u.session Nothing pool pool2
+    → SessionUnderWay settings spare old mid before pool2 desk2 heard ahead
 quiet settings spare old mid before pool pool2 desk desk2 byte heard ahead u h =
     let same = sym (append-nil (replies u.session.answers)) in
     answered settings spare old mid mid before pool pool2 desk desk2 byte heard ahead Nothing u h refl
     (subst (λ (z : List ℕ). Talked old mid heard z u.turns) same u.line) (subst (λ (z : List ℕ). Calm old mid z) same u.calm) refl refl
 
 -- a reply that was said
-pub goes : {T E : Type 0} (settings : Parts) (spare : ℕ) (old mid now : Line) (before pool pool2 : Pool) (desk desk2 : Desk) (byte : ℕ) (heard ahead piece : List ℕ) (a : Answer) (x : T) → (a ≡ End → ⊥) → piece ≡ reply_of a
-    → (u : UnderWay settings spare old mid before pool desk heard (byte ∷ ahead)) → Fed settings spare desk2 u.fed byte u.session a pool pool2 → Says {E = E} mid now piece (Ok x)
-    → UnderWay settings spare old now before pool2 desk2 heard ahead
+pub goes : {T E : Type 0} (settings : Parts) (spare : ℕ) (old mid now : Line) (before pool pool2 : Pool) (desk desk2 : TerminalState) (byte : ℕ) (heard ahead piece : List ℕ) (a : Answer) (x : T) → (a ≡ End → ⊥) → piece ≡ reply_of a
+    → (u : SessionUnderWay settings spare old mid before pool desk heard (byte ∷ ahead)) → Fed settings spare desk2 u.fed byte u.session a pool pool2 → Says {E = E} mid now piece (Ok x)
+    → SessionUnderWay settings spare old now before pool2 desk2 heard ahead
 goes {T} {E} settings spare old mid now before pool pool2 desk desk2 byte heard ahead piece a x e p u h k =
     let s : Says {E = E} mid now (reply_of a) (Ok x) = subst (λ (z : List ℕ). Says {E = E} mid now z (Ok x)) p k in
     answered settings spare old mid now before pool pool2 desk desk2 byte heard ahead a u h (not_end a e)
@@ -91,12 +91,12 @@ goes {T} {E} settings spare old mid now before pool pool2 desk desk2 byte heard 
     s.uses.is_open s.hang
 
 -- all that was heard was fed
-pub all_fed : (settings : Parts) (spare : ℕ) (old mid : Line) (before pool : Pool) (desk : Desk) (heard : List ℕ) (u : UnderWay settings spare old mid before pool desk heard []) → u.fed ≡ heard
+pub all_fed : (settings : Parts) (spare : ℕ) (old mid : Line) (before pool : Pool) (desk : TerminalState) (heard : List ℕ) (u : SessionUnderWay settings spare old mid before pool desk heard []) → u.fed ≡ heard
 all_fed settings spare old mid before pool desk heard u = sym (u.heard_is ∙ append-nil u.fed)
 
 -- bytes were heard
-pub hears_more : {E : Type 0} (settings : Parts) (spare : ℕ) (old mid now : Line) (before pool : Pool) (desk : Desk) (heard buffer : List ℕ) (n : ℕ) → UnderWay settings spare old mid before pool desk heard [] → 0 < n → Hears {E = E} mid now buffer (Ok n)
-    → UnderWay settings spare old now before pool desk (heard ++ take n buffer) (take n buffer)
+pub hears_more : {E : Type 0} (settings : Parts) (spare : ℕ) (old mid now : Line) (before pool : Pool) (desk : TerminalState) (heard buffer : List ℕ) (n : ℕ) → SessionUnderWay settings spare old mid before pool desk heard [] → 0 < n → Hears {E = E} mid now buffer (Ok n)
+    → SessionUnderWay settings spare old now before pool desk (heard ++ take n buffer) (take n buffer)
 hears_more settings spare old mid now before pool desk heard buffer n u lt h =
     let f = all_fed settings spare old mid before pool desk heard u in
     let stood = session_stood settings spare desk u.fed u.session pool.spare u.stands in
@@ -129,7 +129,7 @@ hears_more settings spare old mid now before pool desk heard buffer n u lt h =
     }
 
 -- a session begins
-pub begins : (settings : Parts) (old : Line) (pool : Pool) (desk : Desk) → StandsFor settings pool.spare desk [] unheard pool.spare → UnderWay settings pool.spare old old pool pool desk [] []
+pub begins : (settings : Parts) (old : Line) (pool : Pool) (desk : TerminalState) → TerminalStandsFor settings pool.spare desk [] unheard pool.spare → SessionUnderWay settings pool.spare old old pool pool desk [] []
 begins settings old pool desk s = record {
   fed = [];
   session = unheard;
@@ -147,14 +147,14 @@ begins settings old pool desk s = record {
 }
 
 -- what was said fits
-pub fits_now : (settings : Parts) (spare : ℕ) (old mid : Line) (before pool : Pool) (desk : Desk) (heard : List ℕ) (u : UnderWay settings spare old mid before pool desk heard [])
-    → IsTrue old.tells → IsTrue old.is_open → Fits settings spare (here old) → length (replies u.session.answers) ≤ (here old).room
+pub fits_now : (settings : Parts) (spare : ℕ) (old mid : Line) (before pool : Pool) (desk : TerminalState) (heard : List ℕ) (u : SessionUnderWay settings spare old mid before pool desk heard [])
+    → IsTrue old.tells → IsTrue old.is_open → HasRoomForReplies settings spare (here old) → length (replies u.session.answers) ≤ (here old).room
 fits_now settings spare old mid before pool desk heard u k p f =
     fits_front settings spare (here old) heard (mid.connection (last old)).rest u.session f (u.line.grew k p).rest
     (subst (λ (z : List ℕ). SessionOf settings spare z u.session) (all_fed settings spare old mid before pool desk heard u) (session_stood settings spare desk u.fed u.session pool.spare u.stands))
 
 -- what was heard is a front of what was to be heard
-pub heard_rest : (settings : Parts) (spare : ℕ) (old mid : Line) (before pool : Pool) (desk : Desk) (byte : ℕ) (heard ahead : List ℕ) (u : UnderWay settings spare old mid before pool desk heard (byte ∷ ahead)) → IsTrue old.tells → IsTrue old.is_open
+pub heard_rest : (settings : Parts) (spare : ℕ) (old mid : Line) (before pool : Pool) (desk : TerminalState) (byte : ℕ) (heard ahead : List ℕ) (u : SessionUnderWay settings spare old mid before pool desk heard (byte ∷ ahead)) → IsTrue old.tells → IsTrue old.is_open
     → (here old).rest ≡ (u.fed ++ byte ∷ []) ++ (ahead ++ (mid.connection (last old)).rest)
 heard_rest settings spare old mid before pool desk byte heard ahead u k p =
     (u.line.grew k p).rest ∙ (ap (λ (z : List ℕ). z ++ (mid.connection (last old)).rest) (u.heard_is ∙ sym (splice u.fed byte ahead)) ∙ append_assoc (u.fed ++ byte ∷ []) ahead (mid.connection (last old)).rest)

@@ -4,7 +4,7 @@ use Rattle.page_pool.specs.Pool.{Pool}
 use Rattle.subscribers.specs.Parts.{Parts}
 use Rattle.tap_terminal.specs.declared.answers.Answer.{Answer}
 use Rattle.tap_terminal.specs.declared.answers.Answer.TheVariants.{End, Nothing}
-use Rattle.tap_terminal.specs.Desk.{Desk, said as spoken_list}
+use Rattle.tap_terminal.specs.State.{TerminalState, said as spoken_list}
 use Rattle.tap_terminal.specs.Replies.{replies, reply_of}
 use Rattle.tap_terminal.specs.Session.{Session, is_end}
 use Rattle.wires.proofs.Written.{no_ok, still}
@@ -13,7 +13,7 @@ use Rattle.wires.specs.Held.{Connection}
 use Rattle.wires.specs.Line.{HangsUp, Hears, Line, Says, last}
 use Rattle.serving.specs.declared.session.SessionEnd.{SessionEnd}
 use Rattle.serving.specs.declared.session.SessionEnd.TheVariants.{HungUp, LineLost}
-use Rattle.serving.specs.Sessions.{Fits, GoesOn, IsAnsweredLast, Ran, Stop, Stops, UnderWay, deaf as is_deaf, decided, mute as is_mute, silent as is_silent, told as is_told}
+use Rattle.serving.specs.Sessions.{HasRoomForReplies, GoesOn, IsAnsweredLast, Ran, SessionStop, SessionStops, SessionUnderWay, hear_failed as is_deaf, end_decided, say_failed as is_mute, silent as is_silent, told as is_told}
 use Rattle.endings.specs.Talk.{Grew, here}
 use Rattle.tap_terminal.proofs.Cells.{cells_gain}
 use Rattle.serving.proofs.Decisions.{Fed, few_heard, fits_front, not_end, pages_on, replies_on, spoken}
@@ -22,13 +22,13 @@ use Rattle.serving.proofs.Steps.{all_fed, fits_now, heard_rest, session_stood, s
 use Rattle.endings.proofs.Talks.{calm_hears, calm_says, no_cut, no_deaf, talked_cut, talked_deaf, talked_says, talked_silent}
 
 -- an end that the terminal decided is no lost line
-pub not_lost : (forced : Bool) → decided forced ≢ LineLost
+pub not_lost : (forced : Bool) → end_decided forced ≢ LineLost
 not_lost true e = absurd cc
 not_lost false e = absurd cc
 
 -- the last byte that was fed
-abbrev last_fed : (settings : Parts) (spare : ℕ) (old mid : Line) (before pool pool2 : Pool) (desk desk2 : Desk) (byte : ℕ) (heard ahead : List ℕ) (a : Answer)
-    (u : UnderWay settings spare old mid before pool desk heard (byte ∷ ahead)) (h : Fed settings spare desk2 u.fed byte u.session a pool pool2)
+abbrev last_fed : (settings : Parts) (spare : ℕ) (old mid : Line) (before pool pool2 : Pool) (desk desk2 : TerminalState) (byte : ℕ) (heard ahead : List ℕ) (a : Answer)
+    (u : SessionUnderWay settings spare old mid before pool desk heard (byte ∷ ahead)) (h : Fed settings spare desk2 u.fed byte u.session a pool pool2)
     → spoken_list a ≡ a ∷ [] → IsAnsweredLast settings spare (u.fed ++ byte ∷ []) h.longer a
 last_fed settings spare old mid before pool pool2 desk desk2 byte heard ahead a u h one = record {
   before = u.fed;
@@ -41,9 +41,9 @@ last_fed settings spare old mid before pool pool2 desk desk2 byte heard ahead a 
 }
 
 -- the replies up to this byte fit
-fits_fed : (settings : Parts) (spare : ℕ) (old mid : Line) (before pool pool2 : Pool) (desk desk2 : Desk) (byte : ℕ) (heard ahead : List ℕ) (a : Answer)
-    (u : UnderWay settings spare old mid before pool desk heard (byte ∷ ahead)) → Fed settings spare desk2 u.fed byte u.session a pool pool2
-    → IsTrue old.tells → IsTrue old.is_open → Fits settings spare (here old) → length (replies u.session.answers ++ reply_of a) ≤ (here old).room
+fits_fed : (settings : Parts) (spare : ℕ) (old mid : Line) (before pool pool2 : Pool) (desk desk2 : TerminalState) (byte : ℕ) (heard ahead : List ℕ) (a : Answer)
+    (u : SessionUnderWay settings spare old mid before pool desk heard (byte ∷ ahead)) → Fed settings spare desk2 u.fed byte u.session a pool pool2
+    → IsTrue old.tells → IsTrue old.is_open → HasRoomForReplies settings spare (here old) → length (replies u.session.answers ++ reply_of a) ≤ (here old).room
 fits_fed settings spare old mid before pool pool2 desk desk2 byte heard ahead a u h k p f =
     subst (λ (z : List ℕ). length z ≤ (here old).room) (replies_on u.session h.longer a h.answers_are)
     (fits_front settings spare (here old) (u.fed ++ byte ∷ []) (ahead ++ (mid.connection (last old)).rest) h.longer f
@@ -51,9 +51,9 @@ fits_fed settings spare old mid before pool pool2 desk desk2 byte heard ahead a 
     (session_stood settings spare desk2 (u.fed ++ byte ∷ []) h.longer pool2.spare (stands_on settings spare desk2 u.fed byte u.session a pool pool2 h)))
 
 -- the End was said
-told : {T E : Type 0} (settings : Parts) (spare : ℕ) (old mid now : Line) (before pool pool2 : Pool) (desk desk2 : Desk) (byte : ℕ) (heard ahead : List ℕ) (a : Answer) (x : T) (end : SessionEnd)
-    (u : UnderWay settings spare old mid before pool desk heard (byte ∷ ahead)) (h : Fed settings spare desk2 u.fed byte u.session a pool pool2)
-    → IsTrue (is_end a) → spoken_list a ≡ a ∷ [] → Says {E = E} mid now (reply_of a) (Ok x) → end ≡ decided h.longer.forced → Ran settings spare old now before pool2 desk2 end
+told : {T E : Type 0} (settings : Parts) (spare : ℕ) (old mid now : Line) (before pool pool2 : Pool) (desk desk2 : TerminalState) (byte : ℕ) (heard ahead : List ℕ) (a : Answer) (x : T) (end : SessionEnd)
+    (u : SessionUnderWay settings spare old mid before pool desk heard (byte ∷ ahead)) (h : Fed settings spare desk2 u.fed byte u.session a pool pool2)
+    → IsTrue (is_end a) → spoken_list a ≡ a ∷ [] → Says {E = E} mid now (reply_of a) (Ok x) → end ≡ end_decided h.longer.forced → Ran settings spare old now before pool2 desk2 end
 told settings spare old mid now before pool pool2 desk desk2 byte heard ahead a x end u h e one s d =
     let m = calm_says old mid now heard (replies u.session.answers) u.turns (reply_of a) x u.line u.calm u.open_stays s in
     let stands = stands_on settings spare desk2 u.fed byte u.session a pool pool2 h in
@@ -90,10 +90,10 @@ told settings spare old mid now before pool pool2 desk desk2 byte heard ahead a 
     }
 
 -- saying the reply failed
-mute : {T E : Type 0} (settings : Parts) (spare : ℕ) (old mid now : Line) (before pool pool2 : Pool) (desk desk2 : Desk) (byte : ℕ) (heard ahead : List ℕ) (a : Answer) (x : E) (end : SessionEnd)
-    (u : UnderWay settings spare old mid before pool desk heard (byte ∷ ahead)) (h : Fed settings spare desk2 u.fed byte u.session a pool pool2)
-    → spoken_list a ≡ a ∷ [] → Says {T = T} mid now (reply_of a) (Err x) → end ≡ cond (is_end a) (decided h.longer.forced) LineLost → Ran settings spare old now before pool2 desk2 end
-mute {T} settings spare old mid now before pool pool2 desk desk2 byte heard ahead a x end u h one s d =
+say_failed : {T E : Type 0} (settings : Parts) (spare : ℕ) (old mid now : Line) (before pool pool2 : Pool) (desk desk2 : TerminalState) (byte : ℕ) (heard ahead : List ℕ) (a : Answer) (x : E) (end : SessionEnd)
+    (u : SessionUnderWay settings spare old mid before pool desk heard (byte ∷ ahead)) (h : Fed settings spare desk2 u.fed byte u.session a pool pool2)
+    → spoken_list a ≡ a ∷ [] → Says {T = T} mid now (reply_of a) (Err x) → end ≡ cond (is_end a) (end_decided h.longer.forced) LineLost → Ran settings spare old now before pool2 desk2 end
+say_failed {T} settings spare old mid now before pool pool2 desk desk2 byte heard ahead a x end u h one s d =
     let k = talked_cut {T = T} old mid now heard (replies u.session.answers) u.turns (reply_of a) x u.line u.open_stays s in
     let stands = stands_on settings spare desk2 u.fed byte u.session a pool pool2 h in
     record {
@@ -126,26 +126,26 @@ mute {T} settings spare old mid now before pool pool2 desk desk2 byte heard ahea
     }
 
 -- the line was lost at a reply that isn't the End
-pub lost : {T E : Type 0} (settings : Parts) (spare : ℕ) (old mid now : Line) (before pool pool2 : Pool) (desk desk2 : Desk) (byte : ℕ) (heard ahead piece : List ℕ) (a : Answer) (x : E) → (a ≡ Nothing → ⊥) → (a ≡ End → ⊥) → piece ≡ reply_of a
-    → (u : UnderWay settings spare old mid before pool desk heard (byte ∷ ahead)) → Fed settings spare desk2 u.fed byte u.session a pool pool2 → Says {T = T} mid now piece (Err x)
+pub lost : {T E : Type 0} (settings : Parts) (spare : ℕ) (old mid now : Line) (before pool pool2 : Pool) (desk desk2 : TerminalState) (byte : ℕ) (heard ahead piece : List ℕ) (a : Answer) (x : E) → (a ≡ Nothing → ⊥) → (a ≡ End → ⊥) → piece ≡ reply_of a
+    → (u : SessionUnderWay settings spare old mid before pool desk heard (byte ∷ ahead)) → Fed settings spare desk2 u.fed byte u.session a pool pool2 → Says {T = T} mid now piece (Err x)
     → GoesOn settings spare old now before pool2 desk2 heard ahead (Some LineLost)
 lost {T} settings spare old mid now before pool pool2 desk desk2 byte heard ahead piece a x n e p u h s =
     let t : Says {T = T} mid now (reply_of a) (Err x) = subst (λ (z : List ℕ). Says {T = T} mid now z (Err x)) p s in
-    (mute {T = T} settings spare old mid now before pool pool2 desk desk2 byte heard ahead a x LineLost u h (spoken a n) t (rw (not_end a e) refl), t.uses.is_open ∙ u.open_stays, t.hang ∙ u.hang)
+    (say_failed {T = T} settings spare old mid now before pool pool2 desk desk2 byte heard ahead a x LineLost u h (spoken a n) t (rw (not_end a e) refl), t.uses.is_open ∙ u.open_stays, t.hang ∙ u.hang)
 
 -- the End was said, or saying it failed
-pub ended : {T E : Type 0} (settings : Parts) (spare : ℕ) (old mid now : Line) (before pool pool2 : Pool) (desk desk2 : Desk) (byte : ℕ) (heard ahead piece : List ℕ) (r : Result T E) (end : SessionEnd) → piece ≡ reply_of End
-    → (u : UnderWay settings spare old mid before pool desk heard (byte ∷ ahead)) (h : Fed settings spare desk2 u.fed byte u.session End pool pool2) → Says mid now piece r → end ≡ decided h.longer.forced
+pub ended : {T E : Type 0} (settings : Parts) (spare : ℕ) (old mid now : Line) (before pool pool2 : Pool) (desk desk2 : TerminalState) (byte : ℕ) (heard ahead piece : List ℕ) (r : Result T E) (end : SessionEnd) → piece ≡ reply_of End
+    → (u : SessionUnderWay settings spare old mid before pool desk heard (byte ∷ ahead)) (h : Fed settings spare desk2 u.fed byte u.session End pool pool2) → Says mid now piece r → end ≡ end_decided h.longer.forced
     → GoesOn settings spare old now before pool2 desk2 heard ahead (Some end)
 ended {T} {E} settings spare old mid now before pool pool2 desk desk2 byte heard ahead piece (Ok x) end p u h s d =
     let t : Says {E = E} mid now (reply_of End) (Ok x) = subst (λ (z : List ℕ). Says {E = E} mid now z (Ok x)) p s in
     (told {E = E} settings spare old mid now before pool pool2 desk desk2 byte heard ahead End x end u h refl refl t d, t.uses.is_open ∙ u.open_stays, t.hang ∙ u.hang)
 ended {T} {E} settings spare old mid now before pool pool2 desk desk2 byte heard ahead piece (Err x) end p u h s d =
     let t : Says {T = T} mid now (reply_of End) (Err x) = subst (λ (z : List ℕ). Says {T = T} mid now z (Err x)) p s in
-    (mute {T = T} settings spare old mid now before pool pool2 desk desk2 byte heard ahead End x end u h refl t d, t.uses.is_open ∙ u.open_stays, t.hang ∙ u.hang)
+    (say_failed {T = T} settings spare old mid now before pool pool2 desk desk2 byte heard ahead End x end u h refl t d, t.uses.is_open ∙ u.open_stays, t.hang ∙ u.hang)
 
 -- nothing was left to be heard
-pub silent : {E : Type 0} (settings : Parts) (spare : ℕ) (old mid now : Line) (before pool : Pool) (desk : Desk) (heard buffer : List ℕ) (n : ℕ) → UnderWay settings spare old mid before pool desk heard [] → n ≡ 0 → Hears {E = E} mid now buffer (Ok n)
+pub silent : {E : Type 0} (settings : Parts) (spare : ℕ) (old mid now : Line) (before pool : Pool) (desk : TerminalState) (heard buffer : List ℕ) (n : ℕ) → SessionUnderWay settings spare old mid before pool desk heard [] → n ≡ 0 → Hears {E = E} mid now buffer (Ok n)
     → GoesOn settings spare old now before pool desk [] [] (Some HungUp)
 silent {E} settings spare old mid now before pool desk heard buffer n u z j =
     let h : Hears {E = E} mid now buffer (Ok 0) = subst (λ (k : ℕ). Hears {E = E} mid now buffer (Ok k)) z j in
@@ -181,9 +181,9 @@ silent {E} settings spare old mid now before pool desk heard buffer n u z j =
     )
 
 -- a hear failed
-pub deaf : {E : Type 0} (settings : Parts) (spare : ℕ) (old mid now : Line) (before pool : Pool) (desk : Desk) (heard buffer : List ℕ) (e : E) → UnderWay settings spare old mid before pool desk heard [] → Hears mid now buffer (Err e)
+pub hear_failed : {E : Type 0} (settings : Parts) (spare : ℕ) (old mid now : Line) (before pool : Pool) (desk : TerminalState) (heard buffer : List ℕ) (e : E) → SessionUnderWay settings spare old mid before pool desk heard [] → Hears mid now buffer (Err e)
     → GoesOn settings spare old now before pool desk [] [] (Some LineLost)
-deaf {E} settings spare old mid now before pool desk heard buffer e u h = (
+hear_failed {E} settings spare old mid now before pool desk heard buffer e u h = (
   record {
     heard = heard;
     fed = u.fed;
@@ -214,21 +214,21 @@ deaf {E} settings spare old mid now before pool desk heard buffer e u h = (
 )
 
 -- a session isn't under way after a million bytes
-pub too_long : {B : Type 0} (settings : Parts) (spare : ℕ) (old mid : Line) (before pool : Pool) (desk : Desk) (heard : List ℕ) → UnderWay settings spare old mid before pool desk heard [] → 1000000 ≤ length heard → B
+pub too_long : {B : Type 0} (settings : Parts) (spare : ℕ) (old mid : Line) (before pool : Pool) (desk : TerminalState) (heard : List ℕ) → SessionUnderWay settings spare old mid before pool desk heard [] → 1000000 ≤ length heard → B
 too_long settings spare old mid before pool desk heard u h =
     let few = few_heard settings spare u.fed u.session (session_stood settings spare desk u.fed u.session pool.spare u.stands) u.no_end in
     absurd (omega (arith, h, few, ap length (all_fed settings spare old mid before pool desk heard u)))
 
 -- the stop of a session that was hung up
-stops_on : (settings : Parts) (spare : ℕ) (old mid now : Line) (heard fed said : List ℕ) (session : Session) (end : SessionEnd) (stop : Stop) → now.hear ≡ mid.hear → now.say ≡ mid.say
-    → Stops settings spare old mid heard fed said session end stop → Stops settings spare old now heard fed said session end stop
+stops_on : (settings : Parts) (spare : ℕ) (old mid now : Line) (heard fed said : List ℕ) (session : Session) (end : SessionEnd) (stop : SessionStop) → now.hear ≡ mid.hear → now.say ≡ mid.say
+    → SessionStops settings spare old mid heard fed said session end stop → SessionStops settings spare old now heard fed said session end stop
 stops_on settings spare old mid now heard fed said session end is_silent h s k = record { all = k.all; nothing_left = k.nothing_left; no_end = k.no_end; said_is = k.said_is; hear = h ∙ k.hear; say = s ∙ k.say; end_is = k.end_is }
 stops_on settings spare old mid now heard fed said session end is_deaf h s k = record { all = k.all; no_end = k.no_end; said_is = k.said_is; hear = subst (λ (n : ℕ). Rose old.hear n) (sym h) k.hear; say = s ∙ k.say; end_is = k.end_is }
 stops_on settings spare old mid now heard fed said session end (is_told a) h s k = record { last_answer = k.last_answer; is_the_end = k.is_the_end; said_is = k.said_is; hear = h ∙ k.hear; say = s ∙ k.say; end_is = k.end_is }
 stops_on settings spare old mid now heard fed said session end (is_mute a n) h s k = record { last_answer = k.last_answer; within = k.within; said_is = k.said_is; hear = h ∙ k.hear; say = subst (λ (n : ℕ). Rose old.say n) (sym s) k.say; end_is = k.end_is }
 
 -- a hang-up after the session
-pub hung_up : {T E : Type 0} (settings : Parts) (spare : ℕ) (old mid now : Line) (before pool : Pool) (desk : Desk) (end : SessionEnd) (r : Result T E) → Ran settings spare old mid before pool desk end → mid.is_open ≡ old.is_open → HangsUp mid now r
+pub hung_up : {T E : Type 0} (settings : Parts) (spare : ℕ) (old mid now : Line) (before pool : Pool) (desk : TerminalState) (end : SessionEnd) (r : Result T E) → Ran settings spare old mid before pool desk end → mid.is_open ≡ old.is_open → HangsUp mid now r
     → Ran settings spare old now before pool desk end
 hung_up settings spare old mid now before pool desk end r u o h = record {
   heard = u.heard;
@@ -259,7 +259,7 @@ hung_up settings spare old mid now before pool desk end r u o h = record {
 }
 
 -- and over a steady wire it doesn't fail
-pub hung_up_well : {T E : Type 0} (settings : Parts) (spare : ℕ) (old mid now : Line) (before pool : Pool) (desk : Desk) (end : SessionEnd) (r : Result T E) → Ran settings spare old mid before pool desk end → mid.is_open ≡ old.is_open → mid.hang ≡ old.hang → HangsUp mid now r
-    → IsTrue old.tells → IsTrue old.is_open → IsTrue old.steady → Fits settings spare (here old) → now.hang ≡ old.hang
+pub hung_up_well : {T E : Type 0} (settings : Parts) (spare : ℕ) (old mid now : Line) (before pool : Pool) (desk : TerminalState) (end : SessionEnd) (r : Result T E) → Ran settings spare old mid before pool desk end → mid.is_open ≡ old.is_open → mid.hang ≡ old.hang → HangsUp mid now r
+    → IsTrue old.tells → IsTrue old.is_open → IsTrue old.steady → HasRoomForReplies settings spare (here old) → now.hang ≡ old.hang
 hung_up_well {T} {E} settings spare old mid now before pool desk end (Ok x) u o g h k p s f = h.cause.kept ∙ g
 hung_up_well {T} {E} settings spare old mid now before pool desk end (Err e) u o g h k p s f = no_ok T E e (h.steady (still u.line.tells k) (u.well k p s f).steady (still o p)).0

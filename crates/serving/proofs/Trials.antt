@@ -10,8 +10,9 @@ use Rattle.wires.specs.Fronts.{Grows, IsFront}
 use Rattle.wires.proofs.Fronts.{front_behind}
 use Rattle.subscribers.specs.Directory.{directory_of}
 use Rattle.subscribers.specs.Parts.{Parts}
-use Rattle.tap_block.specs.Chars.{char_of, characters}
-use Rattle.tap_terminal.specs.Desk.{Desk}
+use Rattle.entry_line.specs.Chars.{char_of}
+use Rattle.tap_block.specs.Chars.{characters}
+use Rattle.tap_terminal.specs.State.{TerminalState}
 use Rattle.tap_terminal.specs.Session.{IsSession, Session}
 use Rattle.tap_terminal.proofs.Fronts.{fronts}
 use Rattle.wires.specs.declared.Failed.{Failed}
@@ -126,7 +127,7 @@ tries_unanswered settings spare i0 i n o0 o taken h = record {
       (front_answers settings spare h.fed ((h.fed_is).rest ++ i.left) h.session session h.session_is (subst (λ (z : List ℕ). SessionOf settings spare z session) all is));
 }
 
-abbrev tried : (settings : Parts) (spare : ℕ) (i0 i : Left ℕ) (before after : Pool) (desk : Desk) (o0 o1 : Written ℕ) (air : List Bool) → (h : AnsweredInput settings spare i0 i before after desk o0 o1) → pages before ≡ []
+abbrev tried : (settings : Parts) (spare : ℕ) (i0 i : Left ℕ) (before after : Pool) (desk : TerminalState) (o0 o1 : Written ℕ) (air : List Bool) → (h : AnsweredInput settings spare i0 i before after desk o0 o1) → pages before ≡ []
     → IsAir (pages after) air → TriedSession settings spare i0 i
 tried settings spare i0 i before after desk o0 o1 air h none is = record {
   taken = h.taken;
@@ -139,11 +140,11 @@ tried settings spare i0 i before after desk o0 o1 air h none is = record {
 }
 
 -- the session that was answered was the terminal's last one
-pub was_last : (settings : Parts) (spare : ℕ) (session : Session) (before after : Pool) (desk : Desk) → LeavesSession settings spare session before after desk → WasLast settings spare session desk
+pub was_last : (settings : Parts) (spare : ℕ) (session : Session) (before after : Pool) (desk : TerminalState) → LeavesSession settings spare session before after desk → WasLast settings spare session desk
 was_last settings spare session before after desk h = record { fed = h.fed; left = after.spare; stands = h.stands }
 
 -- a session that wasn't transmitted leaves its pages
-pub leaves_accepted : (settings : Parts) (spare : ℕ) (session : Session) (before after : Pool) (desk : Desk) → pages before ≡ [] → LeavesSession settings spare session before after desk
+pub leaves_accepted : (settings : Parts) (spare : ℕ) (session : Session) (before after : Pool) (desk : TerminalState) → pages before ≡ [] → LeavesSession settings spare session before after desk
     → LeavesAccepted settings spare session after desk
 leaves_accepted settings spare session before after desk none h = record {
   accepted = h.gained.pages_are ∙ ap (λ (p : List Page). p ++ session.pages) none;
@@ -151,7 +152,7 @@ leaves_accepted settings spare session before after desk none h = record {
 }
 
 -- the line between couldn't be printed
-abbrev pub tries_between : (settings : Parts) (spare : ℕ) (printed : List Bool → List ℕ) (i0 i : Left ℕ) (before after : Pool) (desk : Desk) (n : Left Bool) (o0 o1 o2 : Written ℕ) (piece : List ℕ) (e : Failed)
+abbrev pub tries_between : (settings : Parts) (spare : ℕ) (printed : List Bool → List ℕ) (i0 i : Left ℕ) (before after : Pool) (desk : TerminalState) (n : Left Bool) (o0 o1 o2 : Written ℕ) (piece : List ℕ) (e : Failed)
     → printed [] ≡ [] → Grows printed → piece ≡ codes "---\n" → AnsweredInput settings spare i0 i before after desk o0 o1 → pages before ≡ [] → Puts {T = Unit {0}} o1 o2 piece (Err e)
     → TriedFront settings spare printed i0 i n n o0 o2
 tries_between settings spare printed i0 i before after desk n o0 o1 o2 piece e silent g is h none k =
@@ -179,7 +180,7 @@ tries_between settings spare printed i0 i before after desk n o0 o1 o2 piece e s
     }
 
 -- the line between was printed, and then what was heard
-pub tries_heard : (settings : Parts) (spare : ℕ) (printed : List Bool → List ℕ) (i0 i : Left ℕ) (before after new : Pool) (desk : Desk) (n0 n : Left Bool) (o0 o1 o2 o3 : Written ℕ) (piece : List ℕ) (x : Unit {0})
+pub tries_heard : (settings : Parts) (spare : ℕ) (printed : List Bool → List ℕ) (i0 i : Left ℕ) (before after new : Pool) (desk : TerminalState) (n0 n : Left Bool) (o0 o1 o2 o3 : Written ℕ) (piece : List ℕ) (x : Unit {0})
     (status : Status) → Grows printed → piece ≡ codes "---\n" → AnsweredInput settings spare i0 i before after desk o0 o1 → pages before ≡ [] → Puts {E = Failed} o1 o2 piece (Ok x)
     → HearsPages (pages after) printed n0 n o2 o3 status → HearingLeaves after new status → HasTried settings spare printed i0 i n0 n o0 o3 new desk status
 tries_heard settings spare printed i0 i before after new desk n0 n o0 o1 o2 o3 piece x status g is h none k q leaves = by_status status q.heard leaves

@@ -6,8 +6,9 @@ use Rattle.std.proofs.lemmas.List.{map-append}
 use Rattle.std.proofs.lemmas.List.Folds.{list_any-append}
 use Rattle.subscribers.specs.Directory.{directory_of}
 use Rattle.subscribers.specs.Parts.{Parts}
-use Rattle.tap_block.specs.Chars.{char_of, characters}
-use Rattle.tap_terminal.specs.Desk.{Desk, StandsAt}
+use Rattle.entry_line.specs.Chars.{char_of}
+use Rattle.tap_block.specs.Chars.{characters}
+use Rattle.tap_terminal.specs.State.{TerminalState, StandsAt}
 use Rattle.tap_terminal.specs.Replies.{replies}
 use Rattle.tap_terminal.specs.declared.answers.Answer.{Answer}
 use Rattle.tap_terminal.specs.Session.{IsSession, Session, is_end, start, tell}
@@ -20,7 +21,7 @@ use Rattle.serving.specs.declared.session.SessionEnd.{SessionEnd}
 use Rattle.serving.specs.declared.session.SessionEnd.TheVariants.{HungUp, LineLost}
 use Rattle.serving.specs.InTurn.{AllInTurn, WellServed}
 use Rattle.serving.specs.Served.{AllFrom, FitWire, IsWhole, NextFit, OpenedNext, Served, ServedInTurn, ServedWhileFit, UsedWell}
-use Rattle.serving.specs.Sessions.{Fits, IsAnsweredLast, SessionOf, StandsFor, Stop, Stops, deaf, decided, has_end, mute, silent, told}
+use Rattle.serving.specs.Sessions.{HasRoomForReplies, IsAnsweredLast, SessionOf, TerminalStandsFor, SessionStop, SessionStops, hear_failed, end_decided, has_end_answer, say_failed, silent, told}
 use Rattle.endings.specs.Talk.{here}
 use Rattle.serving.proofs.Decisions.{answers_end}
 use Rattle.serving.proofs.InTurn.{SameFrom, same_on, session_keeps, session_opened, session_others, turn-lost, turn-stays, turn-within, wire_after}
@@ -32,17 +33,17 @@ use Rattle.serving.proofs.Stops.{not_lost}
 true_false : {B : Type 0} (b : Bool) → b ≡ true → b ≡ false → B
 true_false b h k = cc
 
-ended_stays : (settings : Parts) (spare left : ℕ) (desk : Desk) (fed more : List ℕ) (session : Session) (stage : Stage) → StandsAt stage settings.password (directory_of settings) spare desk (characters fed) session left
-    → has_end session.answers ≡ true → SessionOf settings spare (fed ++ more) session
+ended_stays : (settings : Parts) (spare left : ℕ) (desk : TerminalState) (fed more : List ℕ) (session : Session) (stage : Stage) → StandsAt stage settings.password (directory_of settings) spare desk (characters fed) session left
+    → has_end_answer session.answers ≡ true → SessionOf settings spare (fed ++ more) session
 ended_stays settings spare left desk fed more session Open h e =
-    true_false (has_end session.answers) e (ap (λ (s : Session). has_end s.answers) h.session_is ∙ (answers_end (tell (directory_of settings) (start spare) h.items) ∙ h.no_end))
+    true_false (has_end_answer session.answers) e (ap (λ (s : Session). has_end_answer s.answers) h.session_is ∙ (answers_end (tell (directory_of settings) (start spare) h.items) ∙ h.no_end))
 ended_stays settings spare left desk fed more session Ended h e = subst (λ (x : List ℕ). IsSession settings.password (directory_of settings) spare x session) (sym (map-append char_of fed more)) (h (characters more))
 ended_stays settings spare left desk fed more session Forced h e = subst (λ (x : List ℕ). IsSession settings.password (directory_of settings) spare x session) (sym (map-append char_of fed more)) (h (characters more))
 
 -- the last answer is an End
-has_last : (settings : Parts) (spare : ℕ) (bytes : List ℕ) (session : Session) (answer : Answer) → IsAnsweredLast settings spare bytes session answer → IsTrue (is_end answer) → has_end session.answers ≡ true
+has_last : (settings : Parts) (spare : ℕ) (bytes : List ℕ) (session : Session) (answer : Answer) → IsAnsweredLast settings spare bytes session answer → IsTrue (is_end answer) → has_end_answer session.answers ≡ true
 has_last settings spare bytes session answer h e =
-    ap has_end h.answers ∙ (list_any-append is_end (h.earlier).answers (answer ∷ []) ∙ last_true (has_end (h.earlier).answers) (is_end answer) e)
+    ap has_end_answer h.answers ∙ (list_any-append is_end (h.earlier).answers (answer ∷ []) ∙ last_true (has_end_answer (h.earlier).answers) (is_end answer) e)
   where
     last_true : (a b : Bool) → IsTrue b → (a || (b || false)) ≡ true
     last_true true b e = refl
@@ -53,19 +54,19 @@ has_last settings spare bytes session answer h e =
 
 -- the end of a session by its answers
 abbrev pub ends_as : Session → SessionEnd
-ends_as session = if has_end session.answers then decided session.forced else HungUp
+ends_as session = if has_end_answer session.answers then end_decided session.forced else HungUp
 
-ends_open : (b forced : Bool) → b ≡ false → HungUp ≡ (if b then decided forced else HungUp)
+ends_open : (b forced : Bool) → b ≡ false → HungUp ≡ (if b then end_decided forced else HungUp)
 ends_open b forced h = rw h refl
 
-ends_over : (b forced : Bool) → b ≡ true → decided forced ≡ (if b then decided forced else HungUp)
+ends_over : (b forced : Bool) → b ≡ true → end_decided forced ≡ (if b then end_decided forced else HungUp)
 ends_over b forced h = rw h refl
 
 -- a session that isn't lost doesn't end as one
 pub whole_end : (session : Session) → ends_as session ≢ LineLost
-whole_end session = by_end (has_end session.answers)
+whole_end session = by_end (has_end_answer session.answers)
   where
-    by_end : (b : Bool) → (if b then decided session.forced else HungUp) ≢ LineLost
+    by_end : (b : Bool) → (if b then end_decided session.forced else HungUp) ≢ LineLost
     by_end true e = not_lost session.forced e
     by_end false e = absurd cc
 
@@ -80,26 +81,26 @@ pub record IsAll (settings : Parts) (spare : ℕ) (rest : List ℕ) (session : S
   pub end_is : end ≡ ends_as session
 
 -- a session that wasn't lost is that of all that was to be heard
-all_heard : (settings : Parts) (spare left : ℕ) (old new : Line) (desk : Desk) (heard fed more said rest : List ℕ) (session : Session) (end : SessionEnd) (stop : Stop) → IsTrue old.tells → IsTrue old.is_open
-    → (here old).rest ≡ rest → rest ≡ fed ++ more → SessionOf settings spare fed session → StandsFor settings spare desk fed session left → end ≢ LineLost → Stops settings spare old new heard fed said session end stop
+all_heard : (settings : Parts) (spare left : ℕ) (old new : Line) (desk : TerminalState) (heard fed more said rest : List ℕ) (session : Session) (end : SessionEnd) (stop : SessionStop) → IsTrue old.tells → IsTrue old.is_open
+    → (here old).rest ≡ rest → rest ≡ fed ++ more → SessionOf settings spare fed session → TerminalStandsFor settings spare desk fed session left → end ≢ LineLost → SessionStops settings spare old new heard fed said session end stop
     → IsAll settings spare rest session end
 all_heard settings spare left old new desk heard fed more said rest session end silent t o same cut is stands kept h = record {
   session_is = subst (λ (x : List ℕ). SessionOf settings spare x session) (h.all ∙ (sym (h.nothing_left t o) ∙ same)) is;
-  end_is = h.end_is ∙ ends_open (has_end session.answers) session.forced h.no_end;
+  end_is = h.end_is ∙ ends_open (has_end_answer session.answers) session.forced h.no_end;
 }
-all_heard settings spare left old new desk heard fed more said rest session end deaf t o same cut is stands kept h = absurd (kept h.end_is)
+all_heard settings spare left old new desk heard fed more said rest session end hear_failed t o same cut is stands kept h = absurd (kept h.end_is)
 all_heard settings spare left old new desk heard fed more said rest session end (told answer) t o same cut is stands kept h =
-    let over : has_end session.answers ≡ true = has_last settings spare fed session answer h.last_answer h.is_the_end in
+    let over : has_end_answer session.answers ≡ true = has_last settings spare fed session answer h.last_answer h.is_the_end in
     record {
       session_is = subst (λ (x : List ℕ). SessionOf settings spare x session) (sym cut) (ended_stays settings spare left desk fed more session desk.stage stands.at_stage over);
-      end_is = h.end_is ∙ ends_over (has_end session.answers) session.forced over;
+      end_is = h.end_is ∙ ends_over (has_end_answer session.answers) session.forced over;
     }
-all_heard settings spare left old new desk heard fed more said rest session end (mute answer n) t o same cut is stands kept h =
-    let e = mute_end _ end (decided session.forced) h.end_is kept in
-    let over : has_end session.answers ≡ true = has_last settings spare fed session answer h.last_answer e.0 in
+all_heard settings spare left old new desk heard fed more said rest session end (say_failed answer n) t o same cut is stands kept h =
+    let e = mute_end _ end (end_decided session.forced) h.end_is kept in
+    let over : has_end_answer session.answers ≡ true = has_last settings spare fed session answer h.last_answer e.0 in
     record {
       session_is = subst (λ (x : List ℕ). SessionOf settings spare x session) (sym cut) (ended_stays settings spare left desk fed more session desk.stage stands.at_stage over);
-      end_is = e.1 ∙ ends_over (has_end session.answers) session.forced over;
+      end_is = e.1 ∙ ends_over (has_end_answer session.answers) session.forced over;
     }
 
 -- what a session on the next connection of a steady wire comes to, where that is fit
@@ -107,7 +108,7 @@ pub record IsGood {settings : Parts} {spare : ℕ} (first : Line) (s : Served se
   pub whole : IsWhole first s.after first.opened s
   pub used : UsedWell first s.after
 
-good : {settings : Parts} {spare : ℕ} (first : Line) (s : Served settings spare) → OpenedNext first s.before → IsTrue first.tells → IsTrue first.steady → Fits settings spare (first.connection first.opened) → IsGood first s
+good : {settings : Parts} {spare : ℕ} (first : Line) (s : Served settings spare) → OpenedNext first s.before → IsTrue first.tells → IsTrue first.steady → HasRoomForReplies settings spare (first.connection first.opened) → IsGood first s
 good {settings} {spare} first s o t st f =
     let c = first.connection first.opened in
     let tells : IsTrue s.before.tells = still o.waited.keeps.tells t in
@@ -115,7 +116,7 @@ good {settings} {spare} first s o t st f =
     let steady : IsTrue s.before.steady = o.waited.steady t st in
     let number : s.before.opened - 1 ≡ first.opened = let e = o.opened t in omega (arith, e) in
     let same : here s.before ≡ c = ap (λ (n : ℕ). s.before.connection n) number ∙ o.waited.connections first.opened in
-    let fits : Fits settings spare (here s.before) = subst (λ (x : Connection). Fits settings spare x) (sym same) f in
+    let fits : HasRoomForReplies settings spare (here s.before) = subst (λ (x : Connection). HasRoomForReplies settings spare x) (sym same) f in
     let well = s.ran.well tells open_now steady fits in
     let grew = s.ran.line.grew tells open_now in
     let left = (s.after.connection (last s.before)).rest in
@@ -144,14 +145,14 @@ good {settings} {spare} first s o t st f =
 -- ---- one session after another
 
 -- the first of the next connections is fit
-first_fit : (settings : Parts) (spare : ℕ) (first : Line) (n : ℕ) → NextFit settings spare first (suc n) → Fits settings spare (first.connection first.opened)
+first_fit : (settings : Parts) (spare : ℕ) (first : Line) (n : ℕ) → NextFit settings spare first (suc n) → HasRoomForReplies settings spare (first.connection first.opened)
 first_fit settings spare first n fit = fit first.opened (omega arith) (omega arith)
 
 -- and those behind it
 fit_on : {settings : Parts} {spare : ℕ} (first : Line) (s : Served settings spare) (n : ℕ) → OpenedNext first s.before → IsTrue first.tells → NextFit settings spare first (suc n) → NextFit settings spare s.after n
 fit_on {settings} {spare} first s n o t fit = λ k from lt.
     let one = session_opened first s o t in
-    subst (λ (c : Connection). Fits settings spare c) (sym (session_others first s o t k (λ e. omega (arith, e, one, from)))) (fit k (omega (arith, from, one)) (omega (arith, lt, one)))
+    subst (λ (c : Connection). HasRoomForReplies settings spare c) (sym (session_others first s o t k (λ e. omega (arith, e, one, from)))) (fit k (omega (arith, from, one)) (omega (arith, lt, one)))
 
 -- what was used well, and once more
 used_then : (a b c : Line) → UsedWell a b → UsedWell b c → UsedWell a c

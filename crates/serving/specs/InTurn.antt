@@ -11,7 +11,7 @@ use Rattle.endings.specs.Talk.{Grew}
 -- The session was served on the connection of this number, which is one of the wire's. It was open and blank, and what was to be heard
 -- there was what it had at first. What came of it stays, so what was heard and said there and the turns are those of the session. Where
 -- it ended because nothing was left, all that was to be heard was fed.
-pub record IsAt {settings : Parts} {spare : ℕ} (first now : Line) (k : ℕ) (s : Served settings spare) : Type 0 where
+pub record SessionIsAt {settings : Parts} {spare : ℕ} (first now : Line) (k : ℕ) (s : Served settings spare) : Type 0 where
   pub within : k < first.count
   pub number : s.before.opened ≡ k + 1
   pub was_open : IsTrue s.before.is_open
@@ -27,7 +27,7 @@ pub record WireAfter {settings : Parts} {spare : ℕ} (first now : Line) (sessio
   pub keeps : Keeps first now
   pub opened : IsTrue first.tells → now.opened ≡ first.opened + length sessions
   pub others : IsTrue first.tells → (k : ℕ) → (k < first.opened ⊎ first.opened + length sessions ≤ k) → now.connection k ≡ first.connection k
-  pub served : IsTrue first.tells → AllFrom (IsAt first now) first.opened sessions
+  pub served : IsTrue first.tells → AllFrom (SessionIsAt first now) first.opened sessions
   pub shut : IsTrue first.tells → (0 < length sessions ⊎ IsFalse first.is_open) → IsFalse now.is_open
 
 -- A session is lost only where the wire's faults of hear or of say rose.

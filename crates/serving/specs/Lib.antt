@@ -1,10 +1,10 @@
 pub mod Answering
 pub mod Answers
-pub mod Hall
 pub mod InTurn
 pub mod Leaves
 pub mod ReportLine
 pub mod Served
 pub mod Serving
 pub mod Sessions
+pub mod StationState
 pub mod Trying

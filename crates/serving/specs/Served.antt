@@ -4,7 +4,7 @@ use Rattle.air.specs.Air.{IsAir}
 use Rattle.bits.specs.Bits.{bytes_bits}
 use Rattle.page_pool.specs.Pool.{Pool}
 use Rattle.subscribers.specs.Parts.{Parts}
-use Rattle.tap_terminal.specs.Desk.{Desk}
+use Rattle.tap_terminal.specs.State.{TerminalState}
 use Rattle.tap_terminal.specs.Replies.{replies}
 use Rattle.wires.specs.Files.{Files, SameAt, longest_name}
 use Rattle.wires.specs.Line.{IsBlank, Keeps, KeepsConnections, KeepsLineAndHang, Line}
@@ -13,7 +13,7 @@ use Rattle.wires.specs.Written.{Written}
 use Rattle.serving.specs.declared.session.SessionEnd.{SessionEnd}
 use Rattle.serving.specs.declared.session.SessionEnd.TheVariants.{HungUp}
 use Rattle.serving.specs.ReportLine.{longest_line, report_line}
-use Rattle.serving.specs.Sessions.{Closes, Fits, Ran, SessionOf, decided, has_end}
+use Rattle.serving.specs.Sessions.{Closes, HasRoomForReplies, Ran, SessionOf, end_decided, has_end_answer}
 
 -- A session that was served, with the wire before and after it, and the bits of the transmission of its pages. The pool was empty
 -- before it.
@@ -22,7 +22,7 @@ pub record Served (settings : Parts) (spare : ℕ) : Type 0 where
   pub after : Line
   pub empty : Pool
   pub pool : Pool
-  pub desk : Desk
+  pub desk : TerminalState
   pub end : SessionEnd
   pub bits : List Bool
   pub no_page : empty.live ≡ []
@@ -102,7 +102,7 @@ pub record OutAfter (old now : Written ℕ) (bytes : List ℕ) : Type 0 where
 pub record FitWire (settings : Parts) (spare : ℕ) (wire : Line) (most : ℕ) : Type 0 where
   pub tells : IsTrue wire.tells
   pub steady : IsTrue wire.steady
-  pub fits : (k : ℕ) → wire.opened ≤ k → k < wire.opened + most → k < wire.count → Fits settings spare (wire.connection k)
+  pub fits : (k : ℕ) → wire.opened ≤ k → k < wire.opened + most → k < wire.count → HasRoomForReplies settings spare (wire.connection k)
 
 -- The shelf is steady, the file is there or may be added, and a fresh one has room for the transmissions of whatever sessions may be
 -- served on as many connections as this.
@@ -121,13 +121,13 @@ pub record FitOut (out : Written ℕ) (most : ℕ) : Type 0 where
 
 -- the next connections, so many, have room for the replies to all that is to be heard there
 abbrev pub NextFit : Parts → ℕ → Line → ℕ → Type 0
-NextFit settings spare wire n = (k : ℕ) → wire.opened ≤ k → k < wire.opened + n → Fits settings spare (wire.connection k)
+NextFit settings spare wire n = (k : ℕ) → wire.opened ≤ k → k < wire.opened + n → HasRoomForReplies settings spare (wire.connection k)
 
 -- The session on the connection of this number is that of all that was to be heard there, and all its replies were said.
 pub record IsWhole {settings : Parts} {spare : ℕ} (first now : Line) (k : ℕ) (s : Served settings spare) : Type 0 where
   pub session_is : SessionOf settings spare (first.connection k).rest s.ran.session
   pub said : (now.connection k).said ≡ (first.connection k).said ++ replies s.ran.session.answers
-  pub end_is : s.end ≡ (if has_end s.ran.session.answers then decided s.ran.session.forced else HungUp)
+  pub end_is : s.end ≡ (if has_end_answer s.ran.session.answers then end_decided s.ran.session.forced else HungUp)
 
 -- No hear, say and hang-up failed, and the wire is steady.
 pub record UsedWell (old new : Line) : Type 0 where

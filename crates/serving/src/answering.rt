@@ -8,7 +8,7 @@ ghost use Rattle.wires.specs.Left.{Left};
 ghost use Rattle.wires.specs.Written.{Written};
 
 use crate::session::Station;
-use tap_terminal::terminal::LAST_CHARACTER;
+use entry_line::characters::LAST_CHARACTER;
 use tap_terminal::{Answer, Reason};
 use wires::Failed;
 use wires::sink::Sink;

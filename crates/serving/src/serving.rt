@@ -8,12 +8,12 @@
 //! (`specs/Serving.antt`). The lines are numbered from 1.
 
 ghost use Rattle.std.specs.Prelude.{◌≡◌, ℕ, ◌+◌, ◌≤◌, List, length, OnOk, []};
-ghost use Rattle.air.specs.Sends.{Sends};
+ghost use Rattle.air.specs.Sends.{SendsTransmission};
 ghost use Rattle.page_pool.specs.Pool.{cells, pages};
 ghost use Rattle.serving.specs.Served.{Served};
 ghost use Rattle.serving.specs.Leaves.{Further, Serves, desk_after};
 ghost use Rattle.serving.specs.Serving.{Around, SendsTo, SoFar};
-ghost use Rattle.tap_terminal.specs.Desk.{Desk};
+ghost use Rattle.tap_terminal.specs.State.{TerminalState};
 ghost use Rattle.subscribers.specs.Parts.{Parts};
 ghost use Rattle.wires.specs.Stacked.{bits_over};
 
@@ -78,7 +78,7 @@ impl Station {
     ) -> Option<Status>
         ensures settings { self.new.settings ≡ self.old.settings }
         ensures cells_stay { cells self.new.pool ≡ cells self.old.pool }
-        ensures further { (settings : Parts) (spare most : ℕ) (first : Around) (begun : Desk) (address : List ℕ) (sessions : List (Served settings spare))
+        ensures further { (settings : Parts) (spare most : ℕ) (first : Around) (begun : TerminalState) (address : List ℕ) (sessions : List (Served settings spare))
             → self.old.settings ≡ settings
             → SoFar first (record { wire = W.state wire.old; shelf = F.state shelf.old; out = O.state out.old }) address air.now most self.old.pool sessions
             → self.old.desk ≡ desk_after begun sessions → length sessions + 1 ≡ number → number ≤ most
@@ -111,7 +111,7 @@ fn send<F: Shelf>(pool: &mut Pool, shelf: &mut F, name: &str) -> Result<Sent, Fa
 
 /// Puts the transmission of a pool's pages as bytes, and empties the pool.
 fn send_bytes<K: Sink>(pool: &mut Pool, sink: &mut K) -> Result<Sent, Failed>
-    ensures sends { Sends (pages pool.old) (bits_over sink.entry.ghost_name (K.state sink.old)) (bits_over sink.entry.ghost_name (K.state sink.new)) result }
+    ensures sends { SendsTransmission (pages pool.old) (bits_over sink.entry.ghost_name (K.state sink.old)) (bits_over sink.entry.ghost_name (K.state sink.new)) result }
     ensures emptied { OnOk result (pool.new.live ≡ []) }
     ensures cells_stay { cells pool.new ≡ cells pool.old }
 {

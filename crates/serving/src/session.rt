@@ -4,23 +4,23 @@
 //! heard, and `take` feeds one byte and says its reply. So each reply is said by one call before anything further is heard. The three
 //! functions answer how the session ends, where it does.
 //!
-//! What to mind. A contract sees a station as its settings, its terminal and its pool (`specs/Hall.antt`). What a session comes to is
-//! the record `Ran` of `specs/Sessions.antt`. The terminal ends each session by its millionth character, so the loop of `talk` never
+//! What to mind. A contract sees a station as its settings, its terminal and its pool (`specs/StationState.antt`). What a session comes to
+//! is the record `Ran` of `specs/Sessions.antt`. The terminal ends each session by its millionth character, so the loop of `talk` never
 //! comes to its end.
 
 ghost use Rattle.std.specs.Prelude.{◌≡◌, ℕ, ◌≤◌, ◌∷◌, [], List, length, IsTrue, IsFalse, IfOk, Some, Option};
 ghost use Rattle.page_pool.specs.Pool.{Pool as Waiting, cells};
-ghost use Rattle.serving.specs.Sessions.{Closes, decided, GoesOn, Ran, StandsFor, UnderWay};
-ghost use Rattle.tap_terminal.specs.Desk.{Stands, unheard};
+ghost use Rattle.serving.specs.Sessions.{Closes, end_decided, GoesOn, Ran, TerminalStandsFor, SessionUnderWay};
+ghost use Rattle.tap_terminal.specs.State.{Stands, unheard};
 ghost use Rattle.tap_terminal.specs.Session.{Session};
 ghost use Rattle.subscribers.specs.Directory.{Directory};
 ghost use Rattle.wires.specs.Line.{Line};
 
+use entry_line::characters::LAST_CHARACTER;
 use page_pool::Pool;
 use std::alloc::Global;
 use std::marker::Model;
 use subscribers::Settings;
-use tap_terminal::terminal::LAST_CHARACTER;
 use tap_terminal::{Answer, Report, Terminal, reply};
 use wires::wire::Wire;
 use wires::{Failed, Memory};
@@ -42,7 +42,7 @@ pub enum SessionEnd {
 }
 
 /// The station: the settings, the pool of the pages that wait to be sent, and the terminal that answers its sessions. A contract sees
-/// it as these three (`Hall`). The pool has the cells of the settings, whatever was called before.
+/// it as these three (`StationState`). The pool has the cells of the settings, whatever was called before.
 #[derive(Drop)]
 pub struct Station {
     pub(crate) settings: Settings,
@@ -51,15 +51,15 @@ pub struct Station {
 }
 
 impl Model for Station {
-    ghost use Rattle.serving.specs.Hall.{Hall, hall_code};
+    ghost use Rattle.serving.specs.StationState.{StationState, station_state_code};
 
-    ghost Value = { Hall };
+    ghost Value = { StationState };
 
-    ghost coded = { hall_code };
+    ghost coded = { station_state_code };
 
-    ghost use Rattle.serving.specs.Hall.{hall_of, IsReady};
+    ghost use Rattle.serving.specs.StationState.{station_state_of, IsReady};
 
-    ghost view = { hall_of };
+    ghost view = { station_state_of };
 
     ghost invariant = { IsReady };
 }
@@ -71,7 +71,7 @@ impl Station {
         ensures settings { IfOk result (λ s. s.settings ≡ settings) }
         ensures no_pages { IfOk result (λ s. s.pool.live ≡ []) }
         ensures spare { IfOk result (λ s. s.pool.spare ≡ settings.cells) }
-        ensures unheard { (spare : ℕ) → IfOk result (λ s. StandsFor settings spare s.desk [] unheard spare) }
+        ensures unheard { (spare : ℕ) → IfOk result (λ s. TerminalStandsFor settings spare s.desk [] unheard spare) }
     {
         let Ok(pool) = Pool::new(alloc, settings.cells()) else {
             return Err(Memory);
@@ -95,7 +95,7 @@ impl Station {
     /// How often each answer came in the last session. Before the first session every number is 0.
     pub fn report(&self) -> Report
         ensures { (spare left : ℕ) (bytes : List ℕ) (session : Session)
-            → StandsFor self.now.settings spare self.now.desk bytes session left → result ≡ session.report }
+            → TerminalStandsFor self.now.settings spare self.now.desk bytes session left → result ≡ session.report }
     {
         self.terminal.report()
     }
@@ -123,7 +123,7 @@ impl Station {
     fn talk<W: Wire>(&mut self, wire: &mut W) -> SessionEnd
         ensures settings { self.new.settings ≡ self.old.settings }
         ensures ran { (spare : ℕ) (first : Line) (before : Waiting)
-            → UnderWay self.old.settings spare first (W.state wire.old) before self.old.pool self.old.desk [] []
+            → SessionUnderWay self.old.settings spare first (W.state wire.old) before self.old.pool self.old.desk [] []
             → GoesOn self.new.settings spare first (W.state wire.new) before self.new.pool self.new.desk [] [] (Some result) }
         ensures cells_stay { cells self.new.pool ≡ cells self.old.pool }
     {
@@ -146,7 +146,7 @@ impl Station {
     fn take_all<W: Wire>(&mut self, bytes: &[u8], wire: &mut W) -> Option<SessionEnd>
         ensures settings { self.new.settings ≡ self.old.settings }
         ensures on { (spare : ℕ) (first : Line) (before : Waiting) (heard : List ℕ)
-            → UnderWay self.old.settings spare first (W.state wire.old) before self.old.pool self.old.desk heard bytes.now
+            → SessionUnderWay self.old.settings spare first (W.state wire.old) before self.old.pool self.old.desk heard bytes.now
             → GoesOn self.new.settings spare first (W.state wire.new) before self.new.pool self.new.desk heard [] result }
         ensures cells_stay { cells self.new.pool ≡ cells self.old.pool }
     {
@@ -162,7 +162,7 @@ impl Station {
     fn take<W: Wire>(&mut self, byte: u8, wire: &mut W) -> Option<SessionEnd>
         ensures settings { self.new.settings ≡ self.old.settings }
         ensures on { (spare : ℕ) (first : Line) (before : Waiting) (heard ahead : List ℕ)
-            → UnderWay self.old.settings spare first (W.state wire.old) before self.old.pool self.old.desk heard (byte ∷ ahead)
+            → SessionUnderWay self.old.settings spare first (W.state wire.old) before self.old.pool self.old.desk heard (byte ∷ ahead)
             → GoesOn self.new.settings spare first (W.state wire.new) before self.new.pool self.new.desk heard ahead result }
         ensures cells_stay { cells self.new.pool ≡ cells self.old.pool }
     {
@@ -185,7 +185,7 @@ impl Station {
     /// The end of a session that the terminal ended.
     fn decided(&self) -> SessionEnd
         ensures { (password : Option (List ℕ)) (directory : Directory) (spare left : ℕ) (x : List ℕ) (session : Session)
-            → Stands password directory spare self.now.desk x session left → result ≡ decided session.forced }
+            → Stands password directory spare self.now.desk x session left → result ≡ end_decided session.forced }
     {
         if self.terminal.forced() {
             SessionEnd::Forced

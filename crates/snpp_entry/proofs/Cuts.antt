@@ -6,27 +6,28 @@ use Rattle.std.proofs.lemmas.Bool.{eqb-true}
 use Rattle.std.proofs.lemmas.Bool.Decides.{nat_tests}
 use Rattle.std.proofs.lemmas.Grind.{flat_map-append}
 use Rattle.std.proofs.lemmas.List.Elements.{All-nil, All-cons, All-append, All-head, All-tail}
-use Rattle.snpp_entry.specs.Lines.{Cut, cut, cut_on, with_char, uncut, lf, joined, HasNo}
+use Rattle.entry_line.specs.Chars.{lf}
+use Rattle.snpp_entry.specs.Lines.{Cut, cut, cut_on, with_char, uncut, rejoined, HasNo}
 
 -- one character more
-joined_more : (k : Cut) (c : ℕ) → joined (with_char k c) ≡ joined k ++ c ∷ []
+joined_more : (k : Cut) (c : ℕ) → rejoined (with_char k c) ≡ rejoined k ++ c ∷ []
 joined_more k c = by_char (c == lf) refl
   where
-    by_char : (b : Bool) → (c == lf) ≡ b → joined (cond b (let n : Cut = record { pieces = k.pieces ++ k.rest ∷ []; rest = [] } in n) (record { pieces = k.pieces; rest = k.rest ++ c ∷ [] })) ≡ joined k ++ c ∷ []
+    by_char : (b : Bool) → (c == lf) ≡ b → rejoined (cond b (let n : Cut = record { pieces = k.pieces ++ k.rest ∷ []; rest = [] } in n) (record { pieces = k.pieces; rest = k.rest ++ c ∷ [] })) ≡ rejoined k ++ c ∷ []
     by_char true h =
         append-nil _ ∙ flat_map-append (λ (piece : List ℕ). piece ++ lf ∷ []) k.pieces (k.rest ∷ [])
         ∙ ap (λ z. flat_map (λ (piece : List ℕ). piece ++ lf ∷ []) k.pieces ++ z) (append-nil (k.rest ++ lf ∷ []))
         ∙ sym (append_assoc (flat_map (λ (piece : List ℕ). piece ++ lf ∷ []) k.pieces) k.rest (lf ∷ []))
-        ∙ ap (λ d. joined k ++ d ∷ []) (sym (eqb-true c lf h))
+        ∙ ap (λ d. rejoined k ++ d ∷ []) (sym (eqb-true c lf h))
     by_char false h = sym (append_assoc (flat_map (λ (piece : List ℕ). piece ++ lf ∷ []) k.pieces) k.rest (c ∷ []))
 
 -- further characters
-joined_on : (k : Cut) (x : List ℕ) → joined (cut_on k x) ≡ joined k ++ x
-joined_on k [] = sym (append-nil (joined k))
-joined_on k (c ∷ x) = joined_on (with_char k c) x ∙ ap (λ z. z ++ x) (joined_more k c) ∙ append_assoc (joined k) (c ∷ []) x
+joined_on : (k : Cut) (x : List ℕ) → rejoined (cut_on k x) ≡ rejoined k ++ x
+joined_on k [] = sym (append-nil (rejoined k))
+joined_on k (c ∷ x) = joined_on (with_char k c) x ∙ ap (λ z. z ++ x) (joined_more k c) ∙ append_assoc (rejoined k) (c ∷ []) x
 
 -- the pieces and the rest are the characters
-pub joined_cut : (x : List ℕ) → joined (cut x) ≡ x
+pub joined_cut : (x : List ℕ) → rejoined (cut x) ≡ x
 joined_cut x = joined_on uncut x
 
 -- no piece has an LF, and the rest has none
@@ -80,5 +81,5 @@ through (p ∷ ps) r done h k =
     ∙ ap (λ (z : List (List ℕ)). record { pieces = z; rest = r }) (append_assoc done (p ∷ []) ps)
 
 -- a list has one cut
-pub one_cut : (k : Cut) → All (HasNo lf) k.pieces → HasNo lf k.rest → cut (joined k) ≡ k
+pub one_cut : (k : Cut) → All (HasNo lf) k.pieces → HasNo lf k.rest → cut (rejoined k) ≡ k
 one_cut k h e = through k.pieces k.rest [] h e

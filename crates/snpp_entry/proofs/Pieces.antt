@@ -3,8 +3,10 @@ use Rattle.std.proofs.Common.{◌≡◌, ℕ, ◌+◌, ◌<◌, ◌≤◌, ◌==
 use Rattle.std.proofs.lemmas.Bool.{cases_lt}
 use Rattle.std.proofs.lemmas.Bool.Decides.{nat_tests}
 use Rattle.std.proofs.lemmas.List.{take_all, take-append-le, length-take}
-use Rattle.snpp_entry.specs.Lines.{Cut, cut, cut_on, with_char, uncut, lf, cr, line_of}
-use Rattle.snpp_entry.specs.Desk.{AreKept, push_within, count_within}
+use Rattle.entry_line.specs.Chars.{lf, cr}
+use Rattle.snpp_entry.specs.Lines.{Cut, cut, cut_on, with_char, uncut, without_cr}
+use Rattle.entry_line.specs.Kept.{push_within, count_within}
+use Rattle.snpp_entry.specs.State.{AreKept}
 
 -- one more before a choice
 cons_cond : (b : Bool) (a : ℕ) (x y : List ℕ) → a ∷ cond b x y ≡ cond b (a ∷ x) (a ∷ y)
@@ -12,13 +14,13 @@ cons_cond true a x y = refl
 cons_cond false a x y = refl
 
 -- the line of a piece by its last character
-pub line_of-push : (front : List ℕ) (c : ℕ) → line_of (front ++ c ∷ []) ≡ cond (c == 13) front (front ++ c ∷ [])
+pub line_of-push : (front : List ℕ) (c : ℕ) → without_cr (front ++ c ∷ []) ≡ cond (c == 13) front (front ++ c ∷ [])
 line_of-push [] c = refl
 line_of-push (a ∷ []) c = cons_cond (c == 13) a [] (c ∷ [])
 line_of-push (a ∷ d ∷ x) c = ap (λ z. a ∷ z) (line_of-push (d ∷ x) c) ∙ cons_cond (c == 13) a (d ∷ x) ((d ∷ x) ++ c ∷ [])
 
 -- a line is at most one character shorter than its piece
-pub line_near : (x : List ℕ) → length x ≤ length (line_of x) + 1
+pub line_near : (x : List ℕ) → length x ≤ length (without_cr x) + 1
 line_near [] = omega arith
 line_near (c ∷ []) = by_last (c == cr)
   where
@@ -32,7 +34,7 @@ pub kept_whole : (piece kept : List ℕ) (count : ℕ) → AreKept piece kept co
 kept_whole piece kept count h few = let e = h.count_is in h.kept_are ∙ take_all 1101 piece (omega (arith, e, few))
 
 -- the line of one that is
-pub long_line : (piece kept : List ℕ) (count : ℕ) → AreKept piece kept count → 1101 < count → 1100 < length (line_of piece)
+pub long_line : (piece kept : List ℕ) (count : ℕ) → AreKept piece kept count → 1101 < count → 1100 < length (without_cr piece)
 long_line piece kept count h many = let e = h.count_is in let f = line_near piece in omega (arith, e, f, many)
 
 -- no character

@@ -9,9 +9,9 @@ use Rattle.subscribers.specs.Parts.{Ids}
 use Rattle.subscribers.specs.declared.subscriber.Subscriber.{Subscriber}
 use Rattle.snpp_entry.specs.declared.answers.SnppAnswer.TheVariants.{Ok, Bye, Command, Twice, Missing, Pager, Text, Room, TooLong}
 use Rattle.subscribers.specs.Directory.{Directory}
-use Rattle.snpp_entry.specs.Replies.{replies, the_greeting, with_end}
-use Rattle.snpp_entry.specs.Reports.{report_of}
-use Rattle.snpp_entry.specs.Session.{session, session_of}
+use Rattle.snpp_entry.specs.Replies.{snpp_replies, the_greeting, with_end}
+use Rattle.snpp_entry.specs.Reports.{snpp_report_of}
+use Rattle.snpp_entry.specs.Session.{session, snpp_session_of}
 
 -- six subscribers
 abbrev subscribers : List (List ℕ × Subscriber)
@@ -41,11 +41,11 @@ one_page : session directory 64 hello ≡ record { answers = Ok ∷ Ok ∷ Ok �
 one_page = refl
 
 -- its report
-one_report : report_of (session directory 64 hello).answers (session directory 64 hello).pages ≡ record { pages = 1; refused = 0 }
+one_report : snpp_report_of (session directory 64 hello).answers (session directory 64 hello).pages ≡ record { pages = 1; refused = 0 }
 one_report = refl
 
 -- what is said
-one_said : the_greeting ++ replies (session directory 64 hello).answers ≡
+one_said : the_greeting ++ snpp_replies (session directory 64 hello).answers ≡
     with_end (codes "220 pocsag") ++ with_end (codes "250 OK") ++ with_end (codes "250 OK") ++ with_end (codes "250 OK") ++ with_end (codes "221 bye")
 one_said = refl
 
@@ -60,11 +60,11 @@ no_page : session directory 64 refusals ≡ record { answers = Missing ∷ Pager
 no_page = refl
 
 -- their report
-no_report : report_of (session directory 64 refusals).answers (session directory 64 refusals).pages ≡ record { pages = 0; refused = 4 }
+no_report : snpp_report_of (session directory 64 refusals).answers (session directory 64 refusals).pages ≡ record { pages = 0; refused = 4 }
 no_report = refl
 
 -- what is said
-no_said : replies (session directory 64 refusals).answers ≡
+no_said : snpp_replies (session directory 64 refusals).answers ≡
     with_end (codes "503 incomplete") ++ with_end (codes "550 pager") ++ with_end (codes "250 OK") ++ with_end (codes "250 OK")
     ++ with_end (codes "554 text") ++ with_end (codes "503 incomplete") ++ with_end (codes "221 bye")
 no_said = refl
@@ -81,5 +81,5 @@ no_room : (session directory 1 (with_end (codes "PAGE 7") ++ with_end (codes "ME
 no_room = refl
 
 -- a session of 999,999 characters isn't ended, and one more ends it
-longest_session : (session_of [] 999999 ≡ record { answers = []; pages = [] }) × (session_of [] 1000000 ≡ record { answers = TooLong ∷ []; pages = [] })
+longest_session : (snpp_session_of [] 999999 ≡ record { answers = []; pages = [] }) × (snpp_session_of [] 1000000 ≡ record { answers = TooLong ∷ []; pages = [] })
 longest_session = (refl, refl)

@@ -1,8 +1,8 @@
 pub mod Lines
-pub mod Rows
-pub mod Reports
-pub mod Session
 pub mod Replies
-pub mod Desk
+pub mod Reports
+pub mod Rows
 pub mod Seen
-pub mod DeskView
+pub mod Session
+pub mod State
+pub mod StateView

@@ -1,21 +1,6 @@
 -- Characters, the lines of a list of them, and the verb and the argument of a line.
+use Rattle.entry_line.specs.Chars.{lf, cr, space}
 use Rattle.std.specs.Prelude.{ℕ, ◌%◌, ◌==◌, List, [], ◌∷◌, ◌++◌, flat_map, if◌then◌else◌, ◌≢◌, All}
-
--- line feed
-abbrev pub lf : ℕ
-lf = 10
-
--- carriage return
-abbrev pub cr : ℕ
-cr = 13
-
--- space
-abbrev pub space : ℕ
-space = 32
-
--- a byte stands for its low seven bits
-abbrev pub char_of : ℕ → ℕ
-char_of byte = byte % 128
 
 -- A list of characters, cut after each LF: the pieces that an LF ends, without it, and what follows the last LF.
 pub record Cut : Type 0 where
@@ -40,10 +25,10 @@ abbrev pub cut : List ℕ → Cut
 cut x = cut_on uncut x
 
 -- the line of a piece: without one CR at its end
-abbrev pub line_of : List ℕ → List ℕ
-line_of [] = []
-line_of (c ∷ []) = if c == cr then [] else c ∷ []
-line_of (c ∷ d ∷ x) = c ∷ line_of (d ∷ x)
+abbrev pub without_cr : List ℕ → List ℕ
+without_cr [] = []
+without_cr (c ∷ []) = if c == cr then [] else c ∷ []
+without_cr (c ∷ d ∷ x) = c ∷ without_cr (d ∷ x)
 
 -- what stands before the first space
 abbrev pub verb : List ℕ → List ℕ
@@ -56,8 +41,8 @@ argument [] = []
 argument (c ∷ x) = if c == space then x else argument x
 
 -- the pieces, each with an LF behind it, and the rest
-abbrev pub joined : Cut → List ℕ
-joined k = flat_map (λ piece. piece ++ lf ∷ []) k.pieces ++ k.rest
+abbrev pub rejoined : Cut → List ℕ
+rejoined k = flat_map (λ piece. piece ++ lf ∷ []) k.pieces ++ k.rest
 
 -- the character isn't in the list
 abbrev pub HasNo : ℕ → List ℕ → Type 0

@@ -12,18 +12,18 @@ abbrev pub the_greeting : List ℕ
 the_greeting = with_end (codes "220 pocsag")
 
 -- the bytes of an answer
-abbrev pub reply_of : SnppAnswer → List ℕ
-reply_of Nothing = []
-reply_of Ok = with_end (codes "250 OK")
-reply_of Bye = with_end (codes "221 bye")
-reply_of TooLong = with_end (codes "421 too long")
-reply_of Command = with_end (codes "500 command")
-reply_of Twice = with_end (codes "503 already entered")
-reply_of Missing = with_end (codes "503 incomplete")
-reply_of Pager = with_end (codes "550 pager")
-reply_of Text = with_end (codes "554 text")
-reply_of Room = with_end (codes "554 room")
+abbrev pub snpp_reply : SnppAnswer → List ℕ
+snpp_reply Nothing = []
+snpp_reply Ok = with_end (codes "250 OK")
+snpp_reply Bye = with_end (codes "221 bye")
+snpp_reply TooLong = with_end (codes "421 too long")
+snpp_reply Command = with_end (codes "500 command")
+snpp_reply Twice = with_end (codes "503 already entered")
+snpp_reply Missing = with_end (codes "503 incomplete")
+snpp_reply Pager = with_end (codes "550 pager")
+snpp_reply Text = with_end (codes "554 text")
+snpp_reply Room = with_end (codes "554 room")
 
 -- the bytes of answers, one after another
-abbrev pub replies : List SnppAnswer → List ℕ
-replies answers = flat_map reply_of answers
+abbrev pub snpp_replies : List SnppAnswer → List ℕ
+snpp_replies answers = flat_map snpp_reply answers

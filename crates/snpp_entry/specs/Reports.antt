@@ -19,9 +19,9 @@ is_refusal Text = true
 is_refusal Room = true
 
 -- how many pages were queued, and how many lines were refused
-abbrev pub report_of : List SnppAnswer → List Page → SnppReport
-report_of answers pages = record { pages = length pages; refused = count_by is_refusal answers }
+abbrev pub snpp_report_of : List SnppAnswer → List Page → SnppReport
+snpp_report_of answers pages = record { pages = length pages; refused = count_by is_refusal answers }
 
 -- a report with one answer more, and so many pages
-abbrev pub added : SnppReport → SnppAnswer → ℕ → SnppReport
-added r answer n = record { pages = r.pages + n; refused = r.refused + (if is_refusal answer then 1 else 0) }
+abbrev pub snpp_added : SnppReport → SnppAnswer → ℕ → SnppReport
+snpp_added r answer n = record { pages = r.pages + n; refused = r.refused + (if is_refusal answer then 1 else 0) }

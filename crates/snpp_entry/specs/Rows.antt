@@ -38,8 +38,8 @@ pub record Outcome : Type 0 where
   pub pages : List Page
 
 -- no page is queued
-abbrev pub plainly : SnppAnswer → Pending → Outcome
-plainly answer p = record { answer = answer; pending = p; pages = [] }
+abbrev pub without_page : SnppAnswer → Pending → Outcome
+without_page answer p = record { answer = answer; pending = p; pages = [] }
 
 -- a word, read without regard to case
 abbrev pub is_word : List ℕ → List ℕ → Bool
@@ -57,64 +57,64 @@ verb_of v =
 
 -- an id, where none is pending: it is unknown, or is pending from now on
 abbrev pub with_id : Pending → List ℕ → Option Subscriber → Outcome
-with_id p id None = plainly Pager p
-with_id p id (Some s) = plainly Ok (record p { id = Some id })
+with_id p id None = without_page Pager p
+with_id p id (Some s) = without_page Ok (record p { id = Some id })
 
 -- an id: a second one, an unknown one, or one that is pending from now on
 abbrev pub page_row : Directory → Pending → List ℕ → Option (List ℕ) → Outcome
-page_row directory p id (Some pending) = plainly Twice p
+page_row directory p id (Some pending) = without_page Twice p
 page_row directory p id None = with_id p id (directory id)
 
 -- a text: a second one, or one that is pending from now on
 abbrev pub mess_row : Pending → List ℕ → Option (List ℕ) → Outcome
-mess_row p text (Some pending) = plainly Twice p
-mess_row p text None = plainly Ok (record p { text = Some text })
+mess_row p text (Some pending) = without_page Twice p
+mess_row p text None = without_page Ok (record p { text = Some text })
 
 -- a page for this subscriber with this text: the text is wrong, there is no room, or the page is queued
 abbrev pub send_text : ℕ → Subscriber → List ℕ → Outcome
 send_text spare s text =
     if fits s.function text then
-    (if nat_lt spare (cells_for (length text) * length (capcodes s)) then plainly Room nothing else record { answer = Ok; pending = nothing; pages = pages_to s text })
-    else plainly Text nothing
+    (if nat_lt spare (cells_for (length text) * length (capcodes s)) then without_page Room nothing else record { answer = Ok; pending = nothing; pages = pages_to s text })
+    else without_page Text nothing
 
 -- the text of the pages of an id with this function: the one that is pending, or else the empty one of a tone, or none
-abbrev pub text_for : Function → Option (List ℕ) → Option (List ℕ)
-text_for function (Some text) = Some text
-text_for Tone1 None = Some []
-text_for Tone2 None = Some []
-text_for Numeric None = None
-text_for Alpha None = None
+abbrev pub pending_text : Function → Option (List ℕ) → Option (List ℕ)
+pending_text function (Some text) = Some text
+pending_text Tone1 None = Some []
+pending_text Tone2 None = Some []
+pending_text Numeric None = None
+pending_text Alpha None = None
 
 -- a page for this subscriber: the text is missing, or there is one
-abbrev pub send_by : ℕ → Pending → Subscriber → Option (List ℕ) → Outcome
-send_by spare p s None = plainly Missing p
-send_by spare p s (Some text) = send_text spare s text
+abbrev pub sent_for : ℕ → Pending → Subscriber → Option (List ℕ) → Outcome
+sent_for spare p s None = without_page Missing p
+sent_for spare p s (Some text) = send_text spare s text
 
 -- the same, by the subscriber of the id
 abbrev pub send_to : ℕ → Pending → Option Subscriber → Outcome
-send_to spare p None = plainly Missing p
-send_to spare p (Some s) = send_by spare p s (text_for s.function p.text)
+send_to spare p None = without_page Missing p
+send_to spare p (Some s) = sent_for spare p s (pending_text s.function p.text)
 
 -- a page: the id is missing, or there is one
 abbrev pub send_row : Directory → ℕ → Pending → Option (List ℕ) → Outcome
-send_row directory spare p None = plainly Missing p
+send_row directory spare p None = without_page Missing p
 send_row directory spare p (Some id) = send_to spare p (directory id)
 
 -- a verb without an argument. With one the line is no command
 abbrev pub alone : List ℕ → Pending → Outcome → Outcome
 alone [] p o = o
-alone (c ∷ a) p o = plainly Command p
+alone (c ∷ a) p o = without_page Command p
 
 -- a line that isn't too long, by its verb
 abbrev pub by_verb : Directory → ℕ → Pending → Verb → List ℕ → Outcome
 by_verb directory spare p PAGE a = page_row directory p a p.id
 by_verb directory spare p MESS a = mess_row p a p.text
-by_verb directory spare p RESE a = alone a p (plainly Ok nothing)
+by_verb directory spare p RESE a = alone a p (without_page Ok nothing)
 by_verb directory spare p SEND a = alone a p (send_row directory spare p p.id)
-by_verb directory spare p QUIT a = alone a p (plainly Bye p)
-by_verb directory spare p OTHER a = plainly Command p
+by_verb directory spare p QUIT a = alone a p (without_page Bye p)
+by_verb directory spare p OTHER a = without_page Command p
 
 -- any line
 abbrev pub outcome : Directory → ℕ → Pending → List ℕ → Outcome
 outcome directory spare p line =
-    if nat_lt 1100 (length line) then plainly Command p else by_verb directory spare p (verb_of (verb line)) (argument line)
+    if nat_lt 1100 (length line) then without_page Command p else by_verb directory spare p (verb_of (verb line)) (argument line)

@@ -1,7 +1,7 @@
 //! Answers, and the replies that say them.
 
 ghost use Rattle.std.specs.Prelude.{◌≡◌};
-ghost use Rattle.snpp_entry.specs.Replies.{reply_of, the_greeting};
+ghost use Rattle.snpp_entry.specs.Replies.{snpp_reply, the_greeting};
 
 /// What a character is answered.
 #[derive(Clone, Copy, Debug, PartialEq, Eq)]
@@ -30,7 +30,7 @@ pub enum SnppAnswer {
 
 /// The bytes of an answer, and none for Nothing.
 pub fn reply(answer: SnppAnswer) -> &'static [u8]
-    ensures { result.now ≡ reply_of answer }
+    ensures { result.now ≡ snpp_reply answer }
 {
     match answer {
         SnppAnswer::Nothing => b"",

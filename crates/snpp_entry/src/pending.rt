@@ -1,11 +1,11 @@
 //! What is pending, and how a line is answered.
 
 ghost use Rattle.std.specs.Prelude.{◌≡◌, ◌≤◌, List, ℕ, length, option_map, take, min};
-ghost use Rattle.snpp_entry.specs.Lines.{line_of};
+ghost use Rattle.snpp_entry.specs.Lines.{without_cr};
 ghost use Rattle.subscribers.specs.Directory.{directory_of};
-ghost use Rattle.snpp_entry.specs.Rows.{alone, mess_row, nothing, outcome, page_row, plainly, send_row, send_text, text_for};
+ghost use Rattle.snpp_entry.specs.Rows.{alone, mess_row, nothing, outcome, page_row, without_page, send_row, send_text, pending_text};
 ghost use Rattle.snpp_entry.specs.Seen.{pending_of};
-ghost use Rattle.snpp_entry.specs.Desk.{AreKept, IsDone};
+ghost use Rattle.snpp_entry.specs.State.{AreKept, IsOutcomeDone};
 
 use crate::answers::SnppAnswer;
 use crate::verbs::{Verb, verb_of};
@@ -51,7 +51,7 @@ fn copied(chars: &[u8]) -> ArrayVec<u8, LONGEST_LINE>
 /// Answers PAGE.
 fn page(pending: &mut Held, id: &[u8], settings: &Settings) -> SnppAnswer
     requires { length id.now ≤ 1100 }
-    ensures { page_row (directory_of settings.now) (pending_of pending.old) id.now (pending_of pending.old).id ≡ plainly result (pending_of pending.new) }
+    ensures { page_row (directory_of settings.now) (pending_of pending.old) id.now (pending_of pending.old).id ≡ without_page result (pending_of pending.new) }
 {
     match &pending.id {
         Some(_) => SnppAnswer::Twice,
@@ -68,7 +68,7 @@ fn page(pending: &mut Held, id: &[u8], settings: &Settings) -> SnppAnswer
 /// Answers MESS.
 fn mess(pending: &mut Held, text: &[u8]) -> SnppAnswer
     requires { length text.now ≤ 1100 }
-    ensures { mess_row (pending_of pending.old) text.now (pending_of pending.old).text ≡ plainly result (pending_of pending.new) }
+    ensures { mess_row (pending_of pending.old) text.now (pending_of pending.old).text ≡ without_page result (pending_of pending.new) }
 {
     match &pending.text {
         Some(_) => SnppAnswer::Twice,
@@ -81,7 +81,7 @@ fn mess(pending: &mut Held, text: &[u8]) -> SnppAnswer
 
 /// The text of the pages of an id with this function: the one that is pending, or else the empty one of a tone, or none.
 fn text_for(function: Function, text: &Option<ArrayVec<u8, LONGEST_LINE>>) -> Option<&[u8]>
-    ensures { option_map (λ t. t.now) result ≡ text_for function (option_map (λ v. v.items) text.now) }
+    ensures { option_map (λ t. t.now) result ≡ pending_text function (option_map (λ v. v.items) text.now) }
 {
     match text {
         Some(text) => Some(text.as_slice()),
@@ -94,7 +94,7 @@ fn text_for(function: Function, text: &Option<ArrayVec<u8, LONGEST_LINE>>) -> Op
 
 /// Queues the pages of an id with this text: the answer, and how many they are.
 fn send_text(subscriber: Subscriber, text: &[u8], pool: &mut Pool) -> (SnppAnswer, u32)
-    ensures { IsDone (send_text pool.old.spare subscriber text.now) result.0 result.1 nothing pool.old pool.new }
+    ensures { IsOutcomeDone (send_text pool.old.spare subscriber text.now) result.0 result.1 nothing pool.old pool.new }
 {
     match fits(subscriber.function, text) {
         Err(_) => (SnppAnswer::Text, 0),
@@ -107,7 +107,7 @@ fn send_text(subscriber: Subscriber, text: &[u8], pool: &mut Pool) -> (SnppAnswe
 
 /// Answers SEND: the answer, and how many pages were queued.
 fn send(pending: &mut Held, settings: &Settings, pool: &mut Pool) -> (SnppAnswer, u32)
-    ensures { IsDone (send_row (directory_of settings.now) pool.old.spare (pending_of pending.old) (pending_of pending.old).id) result.0 result.1 (pending_of pending.new) pool.old pool.new }
+    ensures { IsOutcomeDone (send_row (directory_of settings.now) pool.old.spare (pending_of pending.old) (pending_of pending.old).id) result.0 result.1 (pending_of pending.new) pool.old pool.new }
 {
     match &pending.id {
         None => (SnppAnswer::Missing, 0),
@@ -132,7 +132,7 @@ fn answer(
     settings: &Settings,
     pool: &mut Pool,
 ) -> (SnppAnswer, u32)
-    ensures { IsDone (outcome (directory_of settings.now) pool.old.spare (pending_of pending.old) line.now) result.0 result.1 (pending_of pending.new) pool.old pool.new }
+    ensures { IsOutcomeDone (outcome (directory_of settings.now) pool.old.spare (pending_of pending.old) line.now) result.0 result.1 (pending_of pending.new) pool.old pool.new }
 {
     if line.len() > LONGEST_LINE {
         return (SnppAnswer::Command, 0);
@@ -176,7 +176,7 @@ pub(crate) fn answer_piece(
     pool: &mut Pool,
 ) -> (SnppAnswer, u32)
     ensures done { (piece : List ℕ) → AreKept piece kept.now count
-        → IsDone (outcome (directory_of settings.now) pool.old.spare (pending_of pending.old) (line_of piece)) result.0 result.1 (pending_of pending.new) pool.old pool.new }
+        → IsOutcomeDone (outcome (directory_of settings.now) pool.old.spare (pending_of pending.old) (without_cr piece)) result.0 result.1 (pending_of pending.new) pool.old pool.new }
     ensures few { result.1 ≤ 1 }
 {
     if count as usize > LONGEST_LINE + 1 {

@@ -1,7 +1,7 @@
 //! How many pages came of a session, and how many lines were refused.
 
 ghost use Rattle.std.specs.Prelude.{◌≡◌, ◌+◌, ◌<◌, ◌^◌};
-ghost use Rattle.snpp_entry.specs.Reports.{added, is_refusal};
+ghost use Rattle.snpp_entry.specs.Reports.{snpp_added, is_refusal};
 
 use crate::answers::SnppAnswer;
 
@@ -25,7 +25,7 @@ impl SnppReport {
     pub(crate) fn count(&mut self, answer: SnppAnswer, pages: u32)
         requires pages { self.old.pages + pages < 2 ^ 32 }
         requires refused { self.old.refused + 1 < 2 ^ 32 }
-        ensures { self.new ≡ added self.old answer pages }
+        ensures { self.new ≡ snpp_added self.old answer pages }
     {
         self.pages += pages;
         if is_refusal(answer) {

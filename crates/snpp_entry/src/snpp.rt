@@ -4,20 +4,22 @@
 //! 1,102: so a longer piece is known to be no line of at most 1,100 characters, with a CR at its end or without. `feed` takes one
 //! character. Where it is an LF, `answer_piece` answers the line, and the answer is counted.
 //!
-//! What to mind. A contract sees an `Snpp` as what it holds (`Desk`, `specs/Desk.antt`), and says for which characters it stands
-//! (`Stands`). The session of a whole list is defined without the `Snpp` (`specs/Session.antt`).
+//! What to mind. A contract sees an `Snpp` as what it holds (`SnppState`, `specs/State.antt`), and says for which characters it stands
+//! (`SnppStands`). The session of a whole list is defined without the `Snpp` (`specs/Session.antt`).
 
 ghost use Rattle.std.specs.Prelude.{◌≡◌, ℕ, List, []};
-ghost use Rattle.snpp_entry.specs.Lines.{char_of};
+ghost use Rattle.entry_line.specs.Chars.{char_of};
 ghost use Rattle.subscribers.specs.Directory.{Directory, directory_of};
-ghost use Rattle.snpp_entry.specs.Reports.{report_of};
+ghost use Rattle.snpp_entry.specs.Reports.{snpp_report_of};
 ghost use Rattle.snpp_entry.specs.Session.{is_bye, session};
-ghost use Rattle.snpp_entry.specs.Desk.{Stands, HearsOn, count_within, push_within};
+ghost use Rattle.snpp_entry.specs.State.{SnppStands, SnppHearsOn};
 
 use crate::answers::SnppAnswer;
 use crate::pending::{Held, answer_piece};
 use crate::report::{EMPTY, SnppReport};
 use arrayvec::ArrayVec;
+use entry_line::characters::{LAST_CHARACTER, LF};
+use entry_line::kept::{count_within, push_within};
 use page_pool::Pool;
 use std::marker::Model;
 use subscribers::Settings;
@@ -28,10 +30,7 @@ const KEPT: usize = 1101;
 /// The count that stands for all greater numbers of these characters.
 const MORE: u32 = 1102;
 
-/// The character of this number in a session that is still open ends it.
-pub const LAST_CHARACTER: u32 = 1_000_000;
-
-/// One session of the SNPP entry line. A contract sees it as what it holds (`Desk`).
+/// One session of the SNPP entry line. A contract sees it as what it holds (`SnppState`).
 #[derive(Drop)]
 pub struct Snpp {
     pending: Held,
@@ -46,21 +45,21 @@ pub struct Snpp {
 }
 
 impl Model for Snpp {
-    ghost use Rattle.snpp_entry.specs.Desk.{Desk};
+    ghost use Rattle.snpp_entry.specs.State.{SnppState};
 
-    ghost Value = { Desk };
+    ghost Value = { SnppState };
 
-    ghost use Rattle.snpp_entry.specs.DeskView.{desk_of, IsInRange};
+    ghost use Rattle.snpp_entry.specs.StateView.{snpp_state_of, SnppIsInRange};
 
-    ghost view = { desk_of };
+    ghost view = { snpp_state_of };
 
-    ghost invariant = { IsInRange };
+    ghost invariant = { SnppIsInRange };
 }
 
 impl Snpp {
     /// Starts before a session.
     pub fn new() -> Snpp
-        ensures { (directory : Directory) (spare : ℕ) → Stands directory spare result [] spare }
+        ensures { (directory : Directory) (spare : ℕ) → SnppStands directory spare result [] spare }
     {
         Snpp {
             pending: Held::nothing(),
@@ -74,7 +73,7 @@ impl Snpp {
 
     /// Starts a new session.
     pub fn begin(&mut self)
-        ensures { (directory : Directory) (spare : ℕ) → Stands directory spare self.new [] spare }
+        ensures { (directory : Directory) (spare : ℕ) → SnppStands directory spare self.new [] spare }
     {
         *self = Snpp::new();
     }
@@ -85,8 +84,8 @@ impl Snpp {
     /// Whatever was fed before: where the `Snpp` stands for those characters, it now stands for them and this one. The answers of
     /// the longer session are those before and this one, and its pages are those before and those that the pool gained.
     pub fn feed(&mut self, byte: u8, settings: &Settings, pool: &mut Pool) -> SnppAnswer
-        ensures { (spare : ℕ) (x : List ℕ) → Stands (directory_of settings.now) spare self.old x pool.old.spare
-            → HearsOn (directory_of settings.now) spare self.new x (char_of byte) result pool.old pool.new }
+        ensures { (spare : ℕ) (x : List ℕ) → SnppStands (directory_of settings.now) spare self.old x pool.old.spare
+            → SnppHearsOn (directory_of settings.now) spare self.new x (char_of byte) result pool.old pool.new }
     {
         if self.over {
             return SnppAnswer::Nothing;
@@ -97,9 +96,9 @@ impl Snpp {
         }
         self.heard += 1;
         let c = byte % 128;
-        if c != b'\n' {
+        if c != LF {
             push_within(&mut self.kept, c);
-            self.count = count_within(self.count);
+            self.count = count_within(self.count, MORE);
             return SnppAnswer::Nothing;
         }
         let (answer, pages) = answer_piece(
@@ -118,27 +117,11 @@ impl Snpp {
 
     /// How many pages were queued in this session, and how many lines were refused.
     pub fn report(&self) -> SnppReport
-        ensures { (directory : Directory) (spare left : ℕ) (x : List ℕ) → Stands directory spare self.now x left
-            → result ≡ report_of (session directory spare x).answers (session directory spare x).pages }
+        ensures { (directory : Directory) (spare left : ℕ) (x : List ℕ) → SnppStands directory spare self.now x left
+            → result ≡ snpp_report_of (session directory spare x).answers (session directory spare x).pages }
     {
         self.report
     }
-}
-
-/// Appends a character, but at most 1,101 are kept.
-fn push_within(characters: &mut ArrayVec<u8, KEPT>, c: u8)
-    ensures { characters.new.items ≡ push_within 1101 characters.old.items c }
-{
-    if !characters.is_full() {
-        characters.push(c);
-    }
-}
-
-/// One more, but at most 1,102.
-fn count_within(count: u32) -> u32
-    ensures { result ≡ count_within 1102 count }
-{
-    if count < MORE { count + 1 } else { count }
 }
 
 /// Whether an answer ends the session.

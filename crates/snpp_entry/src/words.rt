@@ -1,15 +1,17 @@
 //! The line of a piece, and its verb and its argument.
 
 ghost use Rattle.std.specs.Prelude.{◌≡◌, ◌≤◌, length};
-ghost use Rattle.snpp_entry.specs.Lines.{argument, line_of, verb};
+ghost use Rattle.snpp_entry.specs.Lines.{argument, without_cr, verb};
+
+use entry_line::characters::{CR, SPACE};
 
 /// The line of a piece: without one CR at its end.
 pub(crate) fn line_of(piece: &[u8]) -> &[u8]
-    ensures line { result.now ≡ line_of piece.now }
+    ensures line { result.now ≡ without_cr piece.now }
 {
     match piece.split_last() {
         None => piece,
-        Some((last, front)) => { if *last == b'\r' { front } else { piece } }
+        Some((last, front)) => { if *last == CR { front } else { piece } }
     }
 }
 
@@ -20,7 +22,7 @@ pub(crate) fn words(line: &[u8]) -> (&[u8], &[u8])
     ensures short { length result.1.now ≤ length line.now }
 {
     for (i, c) in line.iter().enumerate() {
-        if *c == b' ' {
+        if *c == SPACE {
             return (&line[..i], &line[i + 1..]);
         }
     }

@@ -10,12 +10,12 @@ use Rattle.page_text.specs.Fits.{Fits}
 use Rattle.page_text.specs.Page.{Page, IsAcceptable}
 use Rattle.subscribers.specs.Parts.{Parts}
 use Rattle.subscribers.specs.declared.subscriber.Subscriber.{Subscriber}
-use Rattle.tap_block.specs.Fields.{parts_of}
+use Rattle.tap_block.specs.Fields.{content_parts}
 use Rattle.tap_block.specs.Reading.{Entry, empty_line, logon, wrong_line, a_block, a_bye, items_of}
 use Rattle.tap_block.specs.declared.ends.End.{End}
 use Rattle.tap_block.specs.declared.ends.End.TheVariants.{Etx, Etb, Us}
 use Rattle.page_text.proofs.FitTest.{fits_from_test}
-use Rattle.tap_terminal.specs.Session.{Course, Decided, Session, Told, decide, is_end, pages_of, start, tell}
+use Rattle.tap_terminal.specs.Session.{Course, Decided, Session, ItemDecided, decide, is_end, pages_of, start, tell}
 use Rattle.page_text.specs.FitTest.{fits}
 use Rattle.subscribers.specs.Directory.{Directory, directory_of}
 use Rattle.tap_terminal.specs.Verdict.{Verdict, by_end, fields_for, refused, room_for, text_for, values_of, verdict}
@@ -55,7 +55,7 @@ module _ (directory : Directory) (usable : GivesUsable directory) where
   IsFine-fields_for spare (Some p) = IsFine-text_for (directory p.0) p.1 spare (usable p.0)
 
   IsFine-by_end : (spare : ℕ) (e : End) (content : List ℕ) → IsFine (by_end directory spare e content).page
-  IsFine-by_end spare Etx content = IsFine-fields_for spare (values_of (parts_of content))
+  IsFine-by_end spare Etx content = IsFine-fields_for spare (values_of (content_parts content))
   IsFine-by_end spare Etb content = tt
   IsFine-by_end spare Us content = tt
 
@@ -81,7 +81,7 @@ module _ (directory : Directory) (usable : GivesUsable directory) where
   All-cons_option None pages h k = k
   All-cons_option (Some page) pages h k = All-cons IsAcceptable page pages h k
 
-  All-cond : (b : Bool) (told : List Told) → All IsAcceptable (pages_of told) → All IsAcceptable (pages_of (cond b [] told))
+  All-cond : (b : Bool) (told : List ItemDecided) → All IsAcceptable (pages_of told) → All IsAcceptable (pages_of (cond b [] told))
   All-cond true told h = All-nil IsAcceptable
   All-cond false told h = h
 
@@ -89,7 +89,7 @@ module _ (directory : Directory) (usable : GivesUsable directory) where
   All-tell s [] = All-nil IsAcceptable
   All-tell s (e ∷ es) =
       let d : Decided = decide directory s e in
-      let later : List Told = tell directory d.course es in
+      let later : List ItemDecided = tell directory d.course es in
       All-cons_option d.told.page (pages_of (cond (is_end d.told.answer) [] later)) (IsFine-decide s e)
       (All-cond (is_end d.told.answer) later (All-tell d.course es))
 

@@ -19,15 +19,16 @@ use Rattle.scheduler.specs.Slots.{run}
 use Rattle.scheduler.proofs.Schedules.{few_slots}
 use Rattle.subscribers.specs.Parts.{Parts}
 use Rattle.subscribers.specs.declared.subscriber.Subscriber.{Subscriber}
-use Rattle.tap_block.specs.Fields.{parts_of}
+use Rattle.tap_block.specs.Fields.{content_parts}
 use Rattle.tap_block.specs.Reading.{BeforeLogon, Entry, empty_line, logon, wrong_line, a_block, a_bye, items_of}
 use Rattle.tap_block.specs.declared.ends.End.{End}
 use Rattle.tap_block.specs.declared.ends.End.TheVariants.{Etx, Etb, Us}
-use Rattle.tap_block.specs.Chars.{char_of, characters}
+use Rattle.entry_line.specs.Chars.{char_of}
+use Rattle.tap_block.specs.Chars.{characters}
 use Rattle.tap_terminal.specs.Replies.{replies}
 use Rattle.both_ends.proofs.JoinedLimit.{closing_one, items_few, replies_short, told_few}
 use Rattle.subscribers.specs.Directory.{Directory, directory_of}
-use Rattle.tap_terminal.specs.Session.{answers_of, closing, Course, Decided, Session, Told, cells_for_page, decide, is_end, pages_of, start, tell}
+use Rattle.tap_terminal.specs.Session.{answers_of, closing, Course, Decided, Session, ItemDecided, cells_for_page, decide, is_end, pages_of, start, tell}
 use Rattle.page_text.specs.FitTest.{fits}
 use Rattle.tap_terminal.specs.Verdict.{Verdict, by_end, fields_for, refused, room_for, text_for, values_of, verdict}
 use Rattle.tap_terminal.specs.declared.answers.Answer.TheVariants.{Ack, Nak}
@@ -109,7 +110,7 @@ module _ (directory : Directory) where
   within-fields_for spare (Some p) = within-text_for (directory p.0) p.1 spare
 
   within-by_end : (spare : ℕ) (e : End) (content : List ℕ) → IsWithin spare (by_end directory spare e content).page
-  within-by_end spare Etx content = within-fields_for spare (values_of (parts_of content))
+  within-by_end spare Etx content = within-fields_for spare (values_of (content_parts content))
   within-by_end spare Etb content = omega arith
   within-by_end spare Us content = omega arith
 
@@ -133,7 +134,7 @@ module _ (directory : Directory) where
   cells-cons_option None pages = omega arith
   cells-cons_option (Some page) pages = sum_by-cons cells_of page pages
 
-  cells-cond : (b : Bool) (told : List Told) (n : ℕ) → sum_by cells_of (pages_of told) ≤ n → sum_by cells_of (pages_of (cond b [] told)) ≤ n
+  cells-cond : (b : Bool) (told : List ItemDecided) (n : ℕ) → sum_by cells_of (pages_of told) ≤ n → sum_by cells_of (pages_of (cond b [] told)) ≤ n
   cells-cond true told n h = omega arith
   cells-cond false told n h = h
 
@@ -141,7 +142,7 @@ module _ (directory : Directory) where
   cells-tell s [] = omega arith
   cells-tell s (e ∷ es) =
       let d : Decided = decide directory s e in
-      let later : List Told = tell directory d.course es in
+      let later : List ItemDecided = tell directory d.course es in
       let rest = cells-cond (is_end d.told.answer) later d.course.spare (cells-tell d.course es) in
       let w = within-decide s e in
       omega (arith, cells-cons_option d.told.page (pages_of (cond (is_end d.told.answer) [] later)), rest, w)

@@ -4,13 +4,15 @@ use Rattle.std.specs.Prelude.{if◌then◌else◌, filter}
 use Rattle.std.specs.List.{AllByRecursion, filter_map, flat_map}
 use Rattle.std.proofs.lemmas.List.{length-map}
 use Rattle.std.proofs.lemmas.List.Filters.{length-filter_both}
-use Rattle.tap_block.specs.Chars.{char_of, characters, cr, lf}
+use Rattle.entry_line.specs.Chars.{lf, cr, char_of}
+use Rattle.tap_block.specs.Chars.{characters}
 use Rattle.tap_entry.specs.declared.hearing.Mark.{Mark}
 use Rattle.tap_entry.specs.declared.hearing.Mark.TheVariants.{Id, Ack, Nak, Rs, End, Go}
 use Rattle.tap_entry.specs.declared.outcomes.Outcome.{Outcome}
 use Rattle.tap_entry.specs.declared.outcomes.Outcome.TheVariants.{Sent, Abandoned, TriesSpent, Disconnected, NoLogon}
-use Rattle.tap_entry.specs.Client.{Client, Follows, LogsOn, Page, Sends, answered, block_at, body_at, content, end_at, is_nak, logon_line, logons, said_after, said_for, silent, still_calling, turned_away}
-use Rattle.tap_entry.specs.Marks.{AreMarks, Ends, IsPiece, mark_of, prompt, without_lf}
+use Rattle.tap_entry.specs.Client.{Client, Follows, LogsOn, PageToSend, Sends, answered, block_at, body_at, content, end_at, is_nak, logon_line, logons, said_after, said_for, silent, still_calling, turned_away}
+use Rattle.tap_block.specs.Reading.{without_lf}
+use Rattle.tap_entry.specs.Marks.{AreMarks, Ends, IsPiece, mark_of, prompt}
 use Rattle.tap_entry.specs.PagesFile.{IsPassword}
 use Rattle.station.specs.AirRoom.{CallFits}
 use Rattle.both_ends.proofs.JoinedPages.{block_length}
@@ -35,14 +37,14 @@ after_few x k (Go ∷ marks) = let b = after_few x k marks in omega (arith, b)
 for_few : (x : List ℕ) (marks : List Mark) → length (said_for x marks) ≤ 256 + 256 * length marks
 for_few x marks = let a = block_few x 0 in let b = after_few x 0 marks in let c = length-append (block_at x 0) (said_after x 0 marks) in omega (arith, a, b, c)
 
-follows_few : (outcome : Outcome) (pages : List Page) (on : List Outcome → List ℕ → Type 0) (others : List Outcome) (more : List ℕ) (n : ℕ) → (on others more → length more ≤ n + 2) → Follows outcome pages on others more → length more ≤ n + 2
+follows_few : (outcome : Outcome) (pages : List PageToSend) (on : List Outcome → List ℕ → Type 0) (others : List Outcome) (more : List ℕ) (n : ℕ) → (on others more → length more ≤ n + 2) → Follows outcome pages on others more → length more ≤ n + 2
 follows_few TriesSpent pages on others more n f k = omega (arith, ap length k.1)
 follows_few Disconnected pages on others more n f k = omega (arith, ap length k.1)
 follows_few Sent pages on others more n f k = f k
 follows_few Abandoned pages on others more n f k = f k
 follows_few NoLogon pages on others more n f k = f k
 
-sends_few : (pages : List Page) (marks : List Mark) (outcomes : List Outcome) (said : List ℕ) → Sends pages marks outcomes said → length said ≤ 256 * (length pages + length marks) + 2
+sends_few : (pages : List PageToSend) (marks : List Mark) (outcomes : List Outcome) (said : List ℕ) → Sends pages marks outcomes said → length said ≤ 256 * (length pages + length marks) + 2
 sends_few [] marks outcomes said h = omega (arith, ap length h.1)
 sends_few (page ∷ pages) marks outcomes said (inl h) = let a = for_few (content page) marks in omega (arith, a, ap length h.said_is)
 sends_few (page ∷ pages) marks outcomes said (inr h) =
@@ -70,7 +72,7 @@ again_few password (Go ∷ since) h = let b = again_few password since h in omeg
 logons_few : (password : Option (List ℕ)) (since : List Mark) → IsPassword password → length (logons password since) ≤ 11 + 11 * length since
 logons_few password since h = let a = line_few password h in let b = again_few password since h in let c = length-append (logon_line password) (flat_map (λ m. if is_nak m then logon_line password else []) since) in omega (arith, a, b, c)
 
-logs_on_few : (mark : Mark) (pages : List Page) (rest : List Mark) (outcomes : List Outcome) (more : List ℕ) → LogsOn mark pages rest outcomes more → length more ≤ 256 * (length pages + length rest) + 2
+logs_on_few : (mark : Mark) (pages : List PageToSend) (rest : List Mark) (outcomes : List Outcome) (more : List ℕ) → LogsOn mark pages rest outcomes more → length more ≤ 256 * (length pages + length rest) + 2
 logs_on_few Go pages rest outcomes more h = sends_few pages rest outcomes more h
 logs_on_few Id pages rest outcomes more h = omega (arith, ap length h.1)
 logs_on_few Ack pages rest outcomes more h = omega (arith, ap length h.1)
@@ -78,7 +80,7 @@ logs_on_few Nak pages rest outcomes more h = omega (arith, ap length h.1)
 logs_on_few Rs pages rest outcomes more h = omega (arith, ap length h.1)
 logs_on_few End pages rest outcomes more h = omega (arith, ap length h.1)
 
-client_few : (password : Option (List ℕ)) (pages : List Page) (marks : List Mark) (outcomes : List Outcome) (said : List ℕ) → IsPassword password → Client password pages marks outcomes said
+client_few : (password : Option (List ℕ)) (pages : List PageToSend) (marks : List Mark) (outcomes : List Outcome) (said : List ℕ) → IsPassword password → Client password pages marks outcomes said
     → length said ≤ 14 + 256 * (length pages + length marks)
 client_few password pages marks outcomes said p (silent h) = omega (arith, ap length h.said_is)
 client_few password pages marks outcomes said p (turned_away h) = omega (arith, ap length h.said_is)

@@ -7,7 +7,7 @@ use Rattle.subscribers.specs.Parts.{Parts}
 use Rattle.subscribers.specs.Settings.{settings_of}
 use Rattle.subscribers.specs.declared.subscriber.Subscriber.{Subscriber}
 use Rattle.subscribers.specs.Directory.{Directory, directory_of}
-use Rattle.tap_entry.specs.Client.{Page}
+use Rattle.tap_entry.specs.Client.{PageToSend}
 use Rattle.station.proofs.AcceptablePages.{are_acceptable}
 use Rattle.both_ends.proofs.BothEnds.{both_ends}
 use Rattle.near.proofs.NearAir.{near_air}
@@ -17,7 +17,7 @@ use Rattle.near.specs.NearAir.{joined}
 use Rattle.receiver.specs.Shown.{pages_in, pages_of_frame}
 
 -- pages that are those of a client's are the client's as pages of their subscribers
-AreFor-pages_for : (directory : Directory) (pages : List Page) (accepted : List Accepted) → AreFor directory pages accepted → accepted ≡ pages_for directory pages
+AreFor-pages_for : (directory : Directory) (pages : List PageToSend) (accepted : List Accepted) → AreFor directory pages accepted → accepted ≡ pages_for directory pages
 AreFor-pages_for directory [] [] h = refl
 AreFor-pages_for directory [] (a ∷ accepted) h = elim h [ ]
 AreFor-pages_for directory (p ∷ pages) [] h = elim h [ ]

@@ -5,10 +5,10 @@ use Rattle.std.proofs.lemmas.Fmt.{length-decimal-le}
 use Rattle.std.specs.List.{AllByRecursion}
 use Rattle.toml.specs.Data.{Members}
 use Rattle.codeword.specs.declared.functions.Function.{Function}
-use Rattle.subscribers.specs.Entries.{is_id, capcode_of, function_of, with_class, with_capcode, subscriber_of, places, Listed, listed_as, listed, joined, all_or_first_fault, listed_all, map_of, ids_of}
-use Rattle.subscribers.specs.Form.{Entry, Form}
+use Rattle.subscribers.specs.Entries.{is_id, capcode_of, function_of_class, with_class, with_capcode, subscriber_of, with_earlier, Listed, listed_as, listed, joined_results, all_or_first_fault, listed_all, map_of, ids_of}
+use Rattle.subscribers.specs.Form.{SubscriberEntry, Form}
 use Rattle.subscribers.specs.Parts.{Ids}
-use Rattle.subscribers.specs.Settings.{most_bytes, most_entries, is_password_or_none, cells_of, parts_of, with_cells, settings_of_form, of_form, of_tree, tree_of, settings_of}
+use Rattle.subscribers.specs.Settings.{most_settings_bytes, most_entries, is_password_or_none, cells_in_range, parts_of, with_cells, settings_of_form, of_form, of_tree, tree_of, settings_of}
 use Rattle.subscribers.specs.declared.faults.SettingsFault.{SettingsFault}
 use Rattle.subscribers.specs.declared.faults.SettingsFault.TheVariants as Fault
 use Rattle.subscribers.specs.declared.subscriber.Subscriber.{Subscriber}
@@ -51,43 +51,43 @@ capcode_number : (n : ℕ) (c : Option ℕ) (f : Option Function) (fault : Setti
 capcode_number n None f fault h = at_once n (Fault.Capcode n) fault (omega arith) h
 capcode_number n (Some c) f fault h = class_number n c f fault h
 
-subscriber_number : (n : ℕ) (twice : Bool) (e : Entry) (fault : SettingsFault) → subscriber_of n twice e ≡ Err fault → number fault ≤ n
+subscriber_number : (n : ℕ) (twice : Bool) (e : SubscriberEntry) (fault : SettingsFault) → subscriber_of n twice e ≡ Err fault → number fault ≤ n
 unfolding subscriber_of
 subscriber_number n twice e fault h =
-    let rest : Result Subscriber SettingsFault = with_capcode n (capcode_of e.capcode) (function_of e.class) in
+    let rest : Result Subscriber SettingsFault = with_capcode n (capcode_of e.capcode) (function_of_class e.class) in
     or_else (not (is_id e.id)) n (Fault.Id n) fault (cond twice (Err (Fault.IdTwice n)) rest) (omega arith)
-    (or_else twice n (Fault.IdTwice n) fault rest (omega arith) (capcode_number n (capcode_of e.capcode) (function_of e.class) fault)) h
+    (or_else twice n (Fault.IdTwice n) fault rest (omega arith) (capcode_number n (capcode_of e.capcode) (function_of_class e.class) fault)) h
 
 -- ---- all entries
 
 -- fewer entries than this stand before each
-abbrev AreBefore : ℕ → List (List Entry × Entry) → Type 0
-AreBefore m ps = AllByRecursion (λ (p : List Entry × Entry). length p.0 < m) ps
+abbrev AreBefore : ℕ → List (List SubscriberEntry × SubscriberEntry) → Type 0
+AreBefore m ps = AllByRecursion (λ (p : List SubscriberEntry × SubscriberEntry). length p.0 < m) ps
 
-before_later : (e : Entry) (m : ℕ) (ps : List (List Entry × Entry)) → AreBefore m ps → AreBefore (suc m) (map (λ p. (e ∷ p.0, p.1)) ps)
+before_later : (e : SubscriberEntry) (m : ℕ) (ps : List (List SubscriberEntry × SubscriberEntry)) → AreBefore m ps → AreBefore (suc m) (map (λ p. (e ∷ p.0, p.1)) ps)
 before_later e m [] h = tt
 before_later e m (p ∷ ps) h = (let few = h.0 in omega (arith, few), before_later e m ps h.1)
 
-places_before : (es : List Entry) → AreBefore (length es) (places es)
+places_before : (es : List SubscriberEntry) → AreBefore (length es) (with_earlier es)
 places_before [] = tt
-places_before (e ∷ es) = (omega arith, before_later e (length es) (places es) (places_before es))
+places_before (e ∷ es) = (omega arith, before_later e (length es) (with_earlier es) (places_before es))
 
 first_of_two : (id : List ℕ) (r : Result Subscriber SettingsFault) (rest : Result (List Listed) SettingsFault) (fault : SettingsFault)
-    → joined (listed_as id r) rest ≡ Err fault → (r ≡ Err fault) ⊎ (rest ≡ Err fault)
+    → joined_results (listed_as id r) rest ≡ Err fault → (r ≡ Err fault) ⊎ (rest ≡ Err fault)
 first_of_two id (Err first) rest fault h = inl (ap (λ (f : SettingsFault). Err f) (same_fault first fault h))
 first_of_two id (Ok s) (Err first) fault h = inr h
 first_of_two id (Ok s) (Ok others) fault h = absurd cc
 
-places_number : (m : ℕ) (ps : List (List Entry × Entry)) (fault : SettingsFault) → AreBefore m ps → all_or_first_fault (map listed ps) ≡ Err fault → number fault ≤ m
+places_number : (m : ℕ) (ps : List (List SubscriberEntry × SubscriberEntry)) (fault : SettingsFault) → AreBefore m ps → all_or_first_fault (map listed ps) ≡ Err fault → number fault ≤ m
 places_number m [] fault few h = absurd cc
 places_number m (p ∷ ps) fault few h = elim (first_of_two p.1.id _ (all_or_first_fault (map listed ps)) fault h) [
   | inl here ↦ (let own = subscriber_number _ _ p.1 fault here in let short = few.0 in omega (arith, own, short))
   | inr later ↦ places_number m ps fault few.1 later
 ]
 
-listed_number : (es : List Entry) (fault : SettingsFault) → listed_all es ≡ Err fault → number fault ≤ length es
+listed_number : (es : List SubscriberEntry) (fault : SettingsFault) → listed_all es ≡ Err fault → number fault ≤ length es
 unfolding listed_all
-listed_number es fault h = places_number (length es) (places es) fault (places_before es) h
+listed_number es fault h = places_number (length es) (with_earlier es) fault (places_before es) h
 
 map_number : (m : ℕ) (r : Result (List Listed) SettingsFault) (fault : SettingsFault) → (r ≡ Err fault → number fault ≤ m) → map_of r ≡ Err fault → number fault ≤ m
 map_number m (Ok ids) fault few h = absurd cc
@@ -116,8 +116,8 @@ cells_number form (Some cells) fault h = by_count (nat_lt most_entries (length f
 form_number : (form : Form) (fault : SettingsFault) → settings_of_form form ≡ Err fault → number fault ≤ most_entries
 unfolding settings_of_form
 form_number form fault h =
-    and_else (is_password_or_none form.password) most_entries Fault.Password fault (with_cells form (cells_of form.cells)) (omega arith)
-    (cells_number form (cells_of form.cells) fault) h
+    and_else (is_password_or_none form.password) most_entries Fault.Password fault (with_cells form (cells_in_range form.cells)) (omega arith)
+    (cells_number form (cells_in_range form.cells) fault) h
 
 of_form_number : (o : Option Form) (fault : SettingsFault) → of_form o ≡ Err fault → number fault ≤ most_entries
 of_form_number None fault h = at_once most_entries Fault.Form fault (omega arith) h
@@ -130,7 +130,7 @@ of_tree_number (Some tree) fault h = of_form_number _ fault h
 settings_number : (bytes : List ℕ) (fault : SettingsFault) → settings_of bytes ≡ Err fault → number fault ≤ most_entries
 unfolding settings_of
 settings_number bytes fault h =
-    or_else (nat_lt most_bytes (length bytes)) most_entries Fault.Long fault (of_tree (tree_of bytes)) (omega arith) (of_tree_number (tree_of bytes) fault) h
+    or_else (nat_lt most_settings_bytes (length bytes)) most_entries Fault.Long fault (of_tree (tree_of bytes)) (omega arith) (of_tree_number (tree_of bytes) fault) h
 
 -- ---- the line
 

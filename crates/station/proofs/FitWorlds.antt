@@ -13,7 +13,7 @@ use Rattle.subscribers.specs.declared.faults.SettingsFault.{SettingsFault}
 use Rattle.tap_block.specs.Chars.{characters}
 use Rattle.tap_entry.specs.declared.faults.PagesFault.{PagesFault}
 use Rattle.tap_entry.specs.declared.faults.PagesFault.TheVariants as Pages
-use Rattle.tap_entry.specs.PagesFile.{IsRefused, IsWrongLine}
+use Rattle.tap_entry.specs.PagesFile.{IsFileRefused, IsWrongLine}
 use Rattle.subscribers.specs.Directory.{directory_of}
 use Rattle.tap_terminal.specs.Replies.{replies}
 use Rattle.tap_terminal.specs.Session.{Session}
@@ -39,7 +39,7 @@ use Rattle.listening.specs.PageLines.{play_lines}
 use Rattle.serving.specs.ReportLine.{longest_line}
 use Rattle.station.specs.Rows.{Acts, Objects, around}
 use Rattle.serving.specs.Sessions.{SessionOf}
-use Rattle.endings.specs.Statuses.{line_of}
+use Rattle.endings.specs.Statuses.{status_line}
 use Rattle.listening.specs.Table.{table_of}
 use Rattle.serving.specs.Trying.{trial_lines}
 use Rattle.station.proofs.AirRooms.{air_few, shelf_fits}
@@ -187,7 +187,7 @@ fit_with_room (Some (Send address pages)) old s h = (send_room (old.wire.connect
 
 -- ---- the line about an outcome
 
-status_few : (status : Status) → length (line_of status) ≤ 32
+status_few : (status : Status) → length (status_line status) ≤ 32
 status_few Done = omega arith
 status_few Usage = omega arith
 status_few Settings = omega arith
@@ -208,7 +208,7 @@ wrong_line_few : (bytes : List ℕ) (n : ℕ) → IsWrongLine bytes n → n < 10
 wrong_line_few bytes n (inl h) = let e = h.0 in omega (arith, e)
 wrong_line_few bytes n (inr h) = let e = h.number in let few = h.before.few in omega (arith, e, few)
 
-misread_few : (bytes : List ℕ) (fault : PagesFault) → IsRefused bytes fault → length (pages_line fault) ≤ 32
+misread_few : (bytes : List ℕ) (fault : PagesFault) → IsFileRefused bytes fault → length (pages_line fault) ≤ 32
 misread_few bytes Pages.Long h = omega arith
 misread_few bytes (Pages.Line n) h =
     let lt = wrong_line_few bytes n h.1 in

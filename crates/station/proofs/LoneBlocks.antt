@@ -6,9 +6,10 @@ use Rattle.std.proofs.Math.Seq.{take-append_seam}
 use Rattle.tap_block.specs.declared.ends.End.TheVariants.{Etx}
 use Rattle.tap_block.specs.declared.items.Item.{Item}
 use Rattle.tap_block.specs.declared.items.Item.TheVariants.{Block}
-use Rattle.tap_block.specs.Brief.{answer_of, BodyIs, Held, ReadsOn, StandsFor}
-use Rattle.tap_block.specs.Chars.{char_of, characters, etx, stx}
-use Rattle.tap_block.specs.Reading.{a_block, a_bye, AfterLogon, block, bye, dropped, empty_line, Entry, IsBody, IsTrailer, is_right, items_of, line, logon, lone_eot, Piece, Reads, skipped, wrong_line}
+use Rattle.tap_block.specs.Brief.{answer_of, BodyIs, ScannerState, ReadsOn, ScannerStandsFor}
+use Rattle.entry_line.specs.Chars.{char_of}
+use Rattle.tap_block.specs.Chars.{characters, etx, stx}
+use Rattle.tap_block.specs.Reading.{a_block, a_bye, AfterLogon, block, bye, dropped, empty_line, Entry, IsBody, IsTrailer, is_right, items_of, line, logon, lone_eot, InputPiece, Reads, skipped, wrong_line}
 use Rattle.tap_block.proofs.LoneBlocks.{front_of_block, lone_reads, lone_trailer, no_pieces}
 use Rattle.tap_block.proofs.OneReading.{at_most_one}
 use Rattle.tap_block.proofs.WholeBlocks.{block_text}
@@ -26,7 +27,7 @@ answered None answer e s = λ _. absurd (let f : is_some answer ≡ false = ap i
 answered (Some entry) answer e s = λ k. cc
 
 -- a character that completes an item breaks the silence
-pub breaks : (new : Held) (x all behind : List ℕ) (password : Option (List ℕ)) (c : ℕ) (answer : Option Item) → ReadsOn AfterLogon new x [] c answer → is_some answer ≡ true
+pub breaks : (new : ScannerState) (x all behind : List ℕ) (password : Option (List ℕ)) (c : ℕ) (answer : Option Item) → ReadsOn AfterLogon new x [] c answer → is_some answer ≡ true
     → all ≡ (x ++ c ∷ []) ++ behind → new.password ≡ password → BreaksSilence password all
 breaks new x all behind password c answer h s e p = record {
   front = x ++ c ∷ [];
@@ -44,7 +45,7 @@ pub lone_form : (x body trailer : List ℕ) → IsLoneBlock x body trailer → (
 lone_form x body trailer h = let t = block_text None body trailer x Etx h.reads in (t.0, t.1, h.reads.2.1)
 
 -- the one item of a lone block
-pub one_item : (s : Held) (x body trailer : List ℕ) (items : List Entry) → s.password ≡ None → StandsFor AfterLogon s x items → IsLoneBlock x body trailer
+pub one_item : (s : ScannerState) (x body trailer : List ℕ) (items : List Entry) → s.password ≡ None → ScannerStandsFor AfterLogon s x items → IsLoneBlock x body trailer
     → items ≡ a_block body Etx (is_right body Etx trailer) ∷ []
 one_item s x body trailer items p h l =
     let reads : Reads None AfterLogon h.pieces h.rest x = subst (λ (w : Option (List ℕ)). Reads w AfterLogon h.pieces h.rest x) p h.reads in
@@ -67,10 +68,10 @@ no_further None e = refl
 no_further (Some entry) e = cc
 
 -- the last character of a lone block completes an item
-pub last_answers : (new : Held) (fed x body trailer : List ℕ) (c : ℕ) → new.password ≡ None → fed ++ c ∷ [] ≡ x → ReadsOn AfterLogon new fed [] c None → IsLoneBlock x body trailer → ⊥
+pub last_answers : (new : ScannerState) (fed x body trailer : List ℕ) (c : ℕ) → new.password ≡ None → fed ++ c ∷ [] ≡ x → ReadsOn AfterLogon new fed [] c None → IsLoneBlock x body trailer → ⊥
 last_answers new fed x body trailer c p e h l =
     let none = no_further h.further h.answer_is in
-    let stands : StandsFor AfterLogon new x [] = subst (λ (z : List ℕ). StandsFor AfterLogon new z []) e (subst (λ (f : Option Entry). StandsFor AfterLogon new (fed ++ c ∷ []) ([] ++ option_to_list f)) none h.stands) in
+    let stands : ScannerStandsFor AfterLogon new x [] = subst (λ (z : List ℕ). ScannerStandsFor AfterLogon new z []) e (subst (λ (f : Option Entry). ScannerStandsFor AfterLogon new (fed ++ c ∷ []) ([] ++ option_to_list f)) none h.stands) in
     let one = one_item new x body trailer [] p stands l in
     cc
 
@@ -82,10 +83,10 @@ one_answer (Some f) item entry e k =
     let i : item ≡ answer_of f = cc in
     i ∙ ap answer_of same
 
-pub block_answer : (new : Held) (fed x body trailer : List ℕ) (c : ℕ) (item : Item) → new.password ≡ None → fed ++ c ∷ [] ≡ x → ReadsOn AfterLogon new fed [] c (Some item) → IsLoneBlock x body trailer
+pub block_answer : (new : ScannerState) (fed x body trailer : List ℕ) (c : ℕ) (item : Item) → new.password ≡ None → fed ++ c ∷ [] ≡ x → ReadsOn AfterLogon new fed [] c (Some item) → IsLoneBlock x body trailer
     → item ≡ Block Etx (is_right body Etx trailer) (length body)
 block_answer new fed x body trailer c item p e h l =
-    let stands : StandsFor AfterLogon new x ([] ++ option_to_list h.further) = subst (λ (z : List ℕ). StandsFor AfterLogon new z ([] ++ option_to_list h.further)) e h.stands in
+    let stands : ScannerStandsFor AfterLogon new x ([] ++ option_to_list h.further) = subst (λ (z : List ℕ). ScannerStandsFor AfterLogon new z ([] ++ option_to_list h.further)) e h.stands in
     let one = one_item new x body trailer ([] ++ option_to_list h.further) p stands l in
     let size : min (length body) 251 ≡ length body = omega (arith, l.short) in
     one_answer h.further item (a_block body Etx (is_right body Etx trailer)) h.answer_is one ∙ ap (λ (n : ℕ). Block Etx (is_right body Etx trailer) n) size
@@ -101,7 +102,7 @@ same_between a b t u e l =
     sym (take-append_seam a (etx ∷ t)) ∙ ap (take (length a)) k ∙ ap (λ (n : ℕ). take n (b ++ etx ∷ u)) l ∙ take-append_seam b (etx ∷ u)
 
 -- a block's item is read from a body
-block_body : (password : Option (List ℕ)) (pieces : List Piece) (rest x b : List ℕ) (right : Bool) → Reads password AfterLogon pieces rest x → items_of password pieces ≡ a_block b Etx right ∷ [] → IsBody b
+block_body : (password : Option (List ℕ)) (pieces : List InputPiece) (rest x b : List ℕ) (right : Bool) → Reads password AfterLogon pieces rest x → items_of password pieces ≡ a_block b Etx right ∷ [] → IsBody b
 block_body password [] rest x b right h e = cc
 block_body password (line l ∷ pieces) rest x b right h e = elim h.2 [ ]
 block_body password (skipped c ∷ pieces) rest x b right h e = block_body password pieces rest h.0 b right h.3 e
@@ -141,13 +142,13 @@ found_block (Some (a_block d end r)) kept right size e b h =
     }
 
 -- What a scanner answers at the last character, and what stands between STX and ETX, make a lone block.
-pub makes_block : (old new : Held) (fed x body rest : List ℕ) (c : ℕ) (right : Bool) (size : ℕ) → old.password ≡ None → new.password ≡ None → fed ++ c ∷ [] ≡ x
-    → StandsFor AfterLogon old fed [] → ReadsOn AfterLogon new fed [] c (Some (Block Etx right size)) → size ≤ 250 → x ≡ (stx ∷ body) ++ etx ∷ rest → body ≡ new.kept
+pub makes_block : (old new : ScannerState) (fed x body rest : List ℕ) (c : ℕ) (right : Bool) (size : ℕ) → old.password ≡ None → new.password ≡ None → fed ++ c ∷ [] ≡ x
+    → ScannerStandsFor AfterLogon old fed [] → ReadsOn AfterLogon new fed [] c (Some (Block Etx right size)) → size ≤ 250 → x ≡ (stx ∷ body) ++ etx ∷ rest → body ≡ new.kept
     → IsMarkedBlock x body right
 makes_block old new fed x body rest c right size po pn e before h small form k =
     let f = found_block h.further new.kept right size h.answer_is h.body_is small in
     let same : body ≡ f.body = k ∙ f.kept_is in
-    let stands : StandsFor AfterLogon new x ([] ++ option_to_list h.further) = subst (λ (z : List ℕ). StandsFor AfterLogon new z ([] ++ option_to_list h.further)) e h.stands in
+    let stands : ScannerStandsFor AfterLogon new x ([] ++ option_to_list h.further) = subst (λ (z : List ℕ). ScannerStandsFor AfterLogon new z ([] ++ option_to_list h.further)) e h.stands in
     let items : [] ++ option_to_list h.further ≡ a_block body Etx right ∷ [] = ap (λ (o : Option Entry). [] ++ option_to_list o) f.entry ∙ ap (λ (z : List ℕ). a_block z Etx right ∷ []) (sym same) in
     let is : items_of new.password stands.pieces ≡ a_block body Etx right ∷ [] = sym stands.items_are ∙ items in
     let is_body : IsBody body = block_body new.password stands.pieces stands.rest x body right stands.reads is in
@@ -174,10 +175,10 @@ some_entry None entry e = cc
 some_entry (Some f) entry e = (let l : f ∷ [] ≡ entry ∷ [] = e in cc)
 
 -- what a scanner lends after a lone block is its body
-pub kept_body : (new : Held) (fed x body trailer : List ℕ) (c : ℕ) (item : Item) → new.password ≡ None → fed ++ c ∷ [] ≡ x → ReadsOn AfterLogon new fed [] c (Some item) → IsLoneBlock x body trailer
+pub kept_body : (new : ScannerState) (fed x body trailer : List ℕ) (c : ℕ) (item : Item) → new.password ≡ None → fed ++ c ∷ [] ≡ x → ReadsOn AfterLogon new fed [] c (Some item) → IsLoneBlock x body trailer
     → new.kept ≡ body
 kept_body new fed x body trailer c item p e h l =
-    let stands : StandsFor AfterLogon new x ([] ++ option_to_list h.further) = subst (λ (z : List ℕ). StandsFor AfterLogon new z ([] ++ option_to_list h.further)) e h.stands in
+    let stands : ScannerStandsFor AfterLogon new x ([] ++ option_to_list h.further) = subst (λ (z : List ℕ). ScannerStandsFor AfterLogon new z ([] ++ option_to_list h.further)) e h.stands in
     let entry = some_entry h.further (a_block body Etx (is_right body Etx trailer)) (one_item new x body trailer ([] ++ option_to_list h.further) p stands l) in
     let kept : BodyIs (Some (a_block body Etx (is_right body Etx trailer))) new.kept = subst (λ (o : Option Entry). BodyIs o new.kept) entry h.body_is in
     kept ∙ whole body l.short

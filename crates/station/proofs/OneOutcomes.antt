@@ -10,7 +10,7 @@ use Rattle.wires.specs.Written.{Written}
 use Rattle.endings.specs.declared.statuses.Status.{Status}
 use Rattle.endings.specs.declared.statuses.Status.TheVariants.{Done, FileFault, Memory, OutFault, TooLong}
 use Rattle.listening.specs.HeardFile.{HearsFile, Plays, file_bits}
-use Rattle.listening.specs.Listening.{Listens, most_bits}
+use Rattle.listening.specs.Listening.{HasListened, most_bits}
 use Rattle.station.specs.OneOutcome.{FitFile, OnePlay, OneShow, bits_listened}
 use Rattle.listening.specs.PageLines.{play_lines}
 use Rattle.listening.specs.Table.{table_of}
@@ -28,7 +28,7 @@ pub record ComesTo (printed : List Bool → List ℕ) (bits : List Bool) (out0 o
   pub held : out.held ≡ out0.held ++ printed (take most_bits bits)
 
 comes_to : (printed : List Bool → List ℕ) (old new : Left Bool) (out0 out : Written ℕ) (status : Status) → IsTrue old.tells → IsTrue old.steady → FitFor out0 (printed (take most_bits old.left))
-    → Listens printed old new out0 out status → ComesTo printed old.left out0 out status
+    → HasListened printed old new out0 out status → ComesTo printed old.left out0 out status
 comes_to printed old new out0 out Done t s fit h =
     let all : old.left ≡ h.bits = h.took.left t ∙ (ap (λ (z : List Bool). h.bits ++ z) (h.whole t) ∙ append-nil h.bits) in
     let few : length old.left ≤ most_bits = omega (arith, h.few, ap length all) in

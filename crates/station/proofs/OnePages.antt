@@ -2,7 +2,8 @@
 use Rattle.std.proofs.Common.{◌≡◌, ℕ, ◌%◌, ◌<◌, ◌≤◌, inl, inr, Bool, List, [], ◌∷◌, ◌++◌, length, length-append, take, Ok, IsTrue, refl, sym, ◌∙◌, ap, ap₂, subst, arith, append-nil}
 use Rattle.std.proofs.lemmas.List.{length-map, length-take-le}
 use Rattle.std.proofs.lemmas.Bool.{cases_lt}
-use Rattle.tap_block.specs.Chars.{char_of, characters, etx, stx}
+use Rattle.entry_line.specs.Chars.{char_of}
+use Rattle.tap_block.specs.Chars.{characters, etx, stx}
 use Rattle.tap_block.specs.Reading.{IsTrailer}
 use Rattle.wires.specs.Left.{Left}
 use Rattle.station.specs.Input.{ReadsFront}

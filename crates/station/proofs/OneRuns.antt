@@ -10,8 +10,8 @@ use Rattle.endings.specs.declared.statuses.Status.TheVariants.{BadPages, Done, M
 use Rattle.station.specs.Commands.{Command, One, Play, Send, Show, Station, Trial}
 use Rattle.station.specs.OneRun.{FitRun, OneRun}
 use Rattle.station.specs.Outcomes.{Tells, TellsMisread, TellsOutcome, TellsRefusal, line_about, pages_line, settings_line}
-use Rattle.station.specs.Rows.{Acts, Came, Objects}
-use Rattle.endings.specs.Statuses.{line_of}
+use Rattle.station.specs.Rows.{Acts, HasEndedSo, Objects}
+use Rattle.endings.specs.Statuses.{status_line}
 use Rattle.station.specs.OneOutcome.{LeftAlike}
 use Rattle.station.proofs.LeftAlike.{kept_alike}
 use Rattle.endings.specs.Wrote.{FitFor}
@@ -33,7 +33,7 @@ result_of (Misread fault) = BadPages
 nothing_put : (old new : Written ℕ) → new ≡ old → new.held ≡ old.held ++ []
 nothing_put old new e = ap (λ (w : Written ℕ). w.held) e ∙ sym (append-nil old.held)
 
-tells_fit : (status : Status) (old new : Written ℕ) (result : Status) → FitFor old (line_of status) → Tells status old new result → (result ≡ status) × (new.held ≡ old.held ++ line_of status)
+tells_fit : (status : Status) (old new : Written ℕ) (result : Status) → FitFor old (status_line status) → Tells status old new result → (result ≡ status) × (new.held ≡ old.held ++ status_line status)
 tells_fit Done old new result fit h = (h.0, nothing_put old new h.1)
 tells_fit OutFault old new result fit h = (h.0, nothing_put old new h.1)
 tells_fit Settings old new result fit h = (h.0, nothing_put old new h.1)
@@ -58,7 +58,7 @@ told_fit (Misread fault) old new result fit h = misread_fit old new (pages_line 
 -- ---- the commands
 
 came_alike : {M : Type 0} (row row2 : Status → Type 0) (outcome another : Outcome) → ((s t : Status) → row s → row2 t → s ≢ Memory → t ≢ Memory → (t ≡ s) × M)
-    → Came row outcome → Came row2 another → outcome ≢ Ended Memory → another ≢ Ended Memory → (another ≡ outcome) × M
+    → HasEndedSo row outcome → HasEndedSo row2 another → outcome ≢ Ended Memory → another ≢ Ended Memory → (another ≡ outcome) × M
 came_alike row row2 (Ended s) (Ended t) f h k some some2 =
     let r = f s t h k (λ e. some (ap (λ (x : Status). Ended x) e)) (λ e. some2 (ap (λ (x : Status). Ended x) e)) in (ap (λ (x : Status). Ended x) r.0, r.1)
 came_alike row row2 (Ended s) (Refused fault) f h k some some2 = elim k [ ]

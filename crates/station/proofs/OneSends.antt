@@ -7,7 +7,7 @@ use Rattle.tap_entry.specs.declared.hearing.Mark.{Mark}
 use Rattle.tap_entry.specs.declared.outcomes.Outcome.{Outcome as PageOutcome}
 use Rattle.tap_entry.specs.Client.{Client}
 use Rattle.tap_entry.specs.Marks.{AreHeard}
-use Rattle.tap_entry.specs.PagesFile.{IsFile, IsRefused, Told}
+use Rattle.tap_entry.specs.PagesFile.{IsFile, IsFileRefused, FileContent}
 use Rattle.tap_entry.proofs.OneClient.{one_client}
 use Rattle.tap_entry.proofs.OneCut.{one_marks}
 use Rattle.tap_entry.proofs.OneFile.{not_wrong, one_line, one_told}
@@ -26,7 +26,7 @@ use Rattle.calling.specs.declared.stages.Logon.TheVariants.{Pending, Granted}
 use Rattle.endings.specs.declared.statuses.Status.{Status}
 use Rattle.endings.specs.declared.statuses.Status.TheVariants.{Done, FileFault, LogonRefused, Memory, OutFault, SomeUnsent, WireFault}
 use Rattle.calling.specs.Calls.{HasCalled, HungUp, PutLines, SendsSo, status_of}
-use Rattle.calling.specs.Conversations.{IsWithinDue, Stop, Stops, deaf, long, mute, silent, through}
+use Rattle.calling.specs.Conversations.{IsWithinDue, CallStop, CallStops, hear_failed, long, say_failed, silent, through}
 use Rattle.station.specs.OneSend.{FitSend, OneSend}
 use Rattle.calling.specs.OutcomeLines.{all_sent, outcome_lines}
 use Rattle.calling.specs.Progress.{EndsCall, IsLogon}
@@ -42,11 +42,11 @@ use Rattle.station.proofs.LeftAlike.{kept_alike, same_said}
 -- ---- what is fed
 
 -- why a call stopped that wasn't lost: all was fed, or the marks ended it, or it has 1,000,000 characters
-abbrev pub StoppedSo : Told → List ℕ → List ℕ → List Mark → Type 0
+abbrev pub StoppedSo : FileContent → List ℕ → List ℕ → List Mark → Type 0
 StoppedSo told rest fed marks = (fed ≡ rest) ⊎ (EndsCall told marks ⊎ (length fed ≡ 1000000))
 
 -- What a call comes to where this is to be heard.
-pub record ComesSo (told : Told) (rest fed : List ℕ) (marks : List Mark) (outcomes : List PageOutcome) (said : List ℕ) (logon : Logon) : Type 0 where
+pub record ComesSo (told : FileContent) (rest fed : List ℕ) (marks : List Mark) (outcomes : List PageOutcome) (said : List ℕ) (logon : Logon) : Type 0 where
   pub front : IsFront fed rest
   pub marks_are : AreHeard fed marks
   pub client : Client told.password told.pages marks outcomes said
@@ -55,7 +55,7 @@ pub record ComesSo (told : Told) (rest fed : List ℕ) (marks : List Mark) (outc
   pub how : StoppedSo told rest fed marks
 
 -- where one is a shorter front of what the other was fed, it doesn't stop there
-not_shorter : {B : Type 0} (told : Told) (rest x y : List ℕ) (marks : List Mark) → IsFront x y → length x < length y → IsFront y rest → AreHeard x marks → IsWithinDue told y → StoppedSo told rest x marks → B
+not_shorter : {B : Type 0} (told : FileContent) (rest x y : List ℕ) (marks : List Mark) → IsFront x y → length x < length y → IsFront y rest → AreHeard x marks → IsWithinDue told y → StoppedSo told rest x marks → B
 not_shorter told rest x y marks f lt g m w (inl all) = let a = ap length all in let b = ap length g.is in let c = length-append y g.rest in absurd (omega (arith, lt, a, b, c))
 not_shorter told rest x y marks f lt g m w (inr (inl ends)) = absurd (w.early x marks f lt m ends)
 not_shorter told rest x y marks f lt g m w (inr (inr many)) = let a = w.most in absurd (omega (arith, lt, a, many))
@@ -67,13 +67,13 @@ same_length x y f le = f.is ∙ nothing_more f.rest (let a = ap length f.is in l
     nothing_more [] e = append-nil x
     nothing_more (z ∷ r) e = cc
 
-same_front : (told : Told) (rest x y : List ℕ) (marks : List Mark) → IsFront x y → IsFront y rest → AreHeard x marks → IsWithinDue told y → StoppedSo told rest x marks → y ≡ x
+same_front : (told : FileContent) (rest x y : List ℕ) (marks : List Mark) → IsFront x y → IsFront y rest → AreHeard x marks → IsWithinDue told y → StoppedSo told rest x marks → y ≡ x
 same_front told rest x y marks f g m w h = elim (cases_lt (length x) (length y)) [
   | inl lt ↦ not_shorter told rest x y marks f lt g m w h
   | inr le ↦ same_length x y f (omega (arith, le))
 ]
 
-same_fed : (told : Told) (rest x y : List ℕ) (marks marks2 : List Mark) (outcomes outcomes2 : List PageOutcome) (said said2 : List ℕ) (logon logon2 : Logon) → ComesSo told rest x marks outcomes said logon
+same_fed : (told : FileContent) (rest x y : List ℕ) (marks marks2 : List Mark) (outcomes outcomes2 : List PageOutcome) (said said2 : List ℕ) (logon logon2 : Logon) → ComesSo told rest x marks outcomes said logon
     → ComesSo told rest y marks2 outcomes2 said2 logon2 → y ≡ x
 same_fed told rest x y marks marks2 outcomes outcomes2 said said2 logon logon2 h k = elim (fronts_of x y (h.front).rest (k.front).rest (sym (h.front).is ∙ (k.front).is)) [
   | inl f ↦ same_front told rest x y marks f k.front h.marks_are k.within h.how
@@ -92,7 +92,7 @@ pub record SameCall (a b : List PageOutcome) (x y : List ℕ) (l m : Logon) : Ty
   pub saids : y ≡ x
   pub logons : m ≡ l
 
-same_call : (told : Told) (rest x y : List ℕ) (marks marks2 : List Mark) (outcomes outcomes2 : List PageOutcome) (said said2 : List ℕ) (logon logon2 : Logon) → ComesSo told rest x marks outcomes said logon
+same_call : (told : FileContent) (rest x y : List ℕ) (marks marks2 : List Mark) (outcomes outcomes2 : List PageOutcome) (said said2 : List ℕ) (logon logon2 : Logon) → ComesSo told rest x marks outcomes said logon
     → ComesSo told rest y marks2 outcomes2 said2 logon2 → SameCall outcomes outcomes2 said said2 logon logon2
 same_call told rest x y marks marks2 outcomes outcomes2 said said2 logon logon2 h k =
     let fed : y ≡ x = same_fed told rest x y marks marks2 outcomes outcomes2 said said2 logon logon2 h k in
@@ -107,16 +107,16 @@ same_call told rest x y marks marks2 outcomes outcomes2 said said2 logon logon2 
 
 -- ---- a call that isn't lost
 
-over_said : (told : Told) (old new : Line) (c : Connection) (heard fed : List ℕ) (marks : List Mark) (due said : List ℕ) (logon : Logon) (stop : Stop) → IsTrue old.tells → IsTrue old.is_open → here old ≡ c
-    → Stops told old new heard fed marks due said (Over logon) stop → (said ≡ due) × StoppedSo told c.rest fed marks
+over_said : (told : FileContent) (old new : Line) (c : Connection) (heard fed : List ℕ) (marks : List Mark) (due said : List ℕ) (logon : Logon) (stop : CallStop) → IsTrue old.tells → IsTrue old.is_open → here old ≡ c
+    → CallStops told old new heard fed marks due said (Over logon) stop → (said ≡ due) × StoppedSo told c.rest fed marks
 over_said told old new c heard fed marks due said logon silent t o e k = (k.said_is, inl (k.all ∙ (sym (k.nothing_left t o) ∙ ap (λ (z : Connection). z.rest) e)))
-over_said told old new c heard fed marks due said logon deaf t o e k = let q = k.ending_is in cc
+over_said told old new c heard fed marks due said logon hear_failed t o e k = let q = k.ending_is in cc
 over_said told old new c heard fed marks due said logon through t o e k = (k.said_is, inr (inl k.reason))
 over_said told old new c heard fed marks due said logon long t o e k = (k.said_is, inr (inr k.reason))
-over_said told old new c heard fed marks due said logon mute t o e k = let q = k.ending_is in cc
+over_said told old new c heard fed marks due said logon say_failed t o e k = let q = k.ending_is in cc
 
 -- A call over the next connection that came to this, with what was said there.
-pub record IsCalled (told : Told) (old new : Line) (outcomes : List PageOutcome) (logon : Logon) : Type 0 where
+pub record IsCalled (told : FileContent) (old new : Line) (outcomes : List PageOutcome) (logon : Logon) : Type 0 where
   pub fed : List ℕ
   pub marks : List Mark
   pub said : List ℕ
@@ -128,7 +128,7 @@ spoke_over : (old new : Line) (spoke : Ending) (logon : Logon) → HungUp old ne
 spoke_over old new spoke logon (inl h) = sym h.0
 spoke_over old new spoke logon (inr h) = let e = h.0 in cc
 
-is_called : (told : Told) (address : List ℕ) (old new : Line) (outcomes : List PageOutcome) (logon : Logon) → IsTrue old.tells → HasCalled told address old new outcomes (Over logon) → IsCalled told old new outcomes logon
+is_called : (told : FileContent) (address : List ℕ) (old new : Line) (outcomes : List PageOutcome) (logon : Logon) → IsTrue old.tells → HasCalled told address old new outcomes (Over logon) → IsCalled told old new outcomes logon
 is_called told address old new outcomes logon t h =
     let b = h.dialled in
     let c = h.came in
@@ -136,7 +136,7 @@ is_called told address old new outcomes logon t h =
     let number : last b ≡ old.opened = (let e = (h.opens.opened t).1 in omega (arith, e)) in
     let tells : IsTrue b.tells = still h.opens.tells t in
     let was_open : IsTrue b.is_open = (h.opens.opened t).2 in
-    let stops = subst (λ (z : Ending). Stops told b new c.heard c.fed c.marks c.due c.said z c.stop) (spoke_over old new h.spoke logon h.hung) c.stops in
+    let stops = subst (λ (z : Ending). CallStops told b new c.heard c.fed c.marks c.due c.said z c.stop) (spoke_over old new h.spoke logon h.hung) c.stops in
     let s = over_said told b new (old.connection old.opened) c.heard c.fed c.marks c.due c.said logon c.stop tells was_open same stops in
     let grew = c.line.grew tells was_open in
     record {
@@ -161,7 +161,7 @@ is_called told address old new outcomes logon t h =
     }
 
 -- two calls over one wire said the same on each connection
-called_alike : (told : Told) (old new other : Line) (outcomes outcomes2 : List PageOutcome) (logon logon2 : Logon) → IsCalled told old new outcomes logon → IsCalled told old other outcomes2 logon2 → (k : ℕ) → (other.connection k).said ≡ (new.connection k).said
+called_alike : (told : FileContent) (old new other : Line) (outcomes outcomes2 : List PageOutcome) (logon logon2 : Logon) → IsCalled told old new outcomes logon → IsCalled told old other outcomes2 logon2 → (k : ℕ) → (other.connection k).said ≡ (new.connection k).said
 called_alike told old new other outcomes outcomes2 logon logon2 h g k = elim (cases_lt k old.opened) [
   | inl before ↦ elsewhere (λ e. absurd (omega (arith, before, e)))
   | inr from ↦ elim (cases_lt old.opened k) [
@@ -183,7 +183,7 @@ called_alike told old new other outcomes outcomes2 logon logon2 h g k = elim (ca
 
 -- The pages were sent, and their lines put.
 pub record IsSent (pages : List ℕ) (old new : Around) (outcome : Outcome) : Type 0 where
-  pub told : Told
+  pub told : FileContent
   pub outcomes : List PageOutcome
   pub logon : Logon
   pub pages_are : IsFile (old.shelf.file pages) told
@@ -196,7 +196,7 @@ pub record IsSent (pages : List ℕ) (old new : Around) (outcome : Outcome) : Ty
 pub record IsMisread (pages : List ℕ) (old new : Around) (outcome : Outcome) : Type 0 where
   pub fault : PagesFault
   pub not_memory : fault ≢ Pages.Memory
-  pub refused : IsRefused (old.shelf.file pages) fault
+  pub refused : IsFileRefused (old.shelf.file pages) fault
   pub wire : new.wire ≡ old.wire
   pub out : new.out ≡ old.out
   pub kept : all_files new.shelf ≡ all_files old.shelf
@@ -210,7 +210,7 @@ granted_not : (b : Bool) → IsFalse b → status_of (Over Granted) b ≡ SomeUn
 granted_not true h = cc
 granted_not false h = refl
 
-sent_by : (told : Told) (address pages : List ℕ) (old new : Around) (outcomes : List PageOutcome) (logon : Logon) (status : Status) → FitSend pages old → IsFile (old.shelf.file pages) told → all_files new.shelf ≡ all_files old.shelf
+sent_by : (told : FileContent) (address pages : List ℕ) (old new : Around) (outcomes : List PageOutcome) (logon : Logon) (status : Status) → FitSend pages old → IsFile (old.shelf.file pages) told → all_files new.shelf ≡ all_files old.shelf
     → HasCalled told address old.wire new.wire outcomes (Over logon) → PutLines old.out new.out outcomes → status_of (Over logon) (all_sent outcomes) ≡ status → IsSent pages old new (Ended status)
 sent_by told address pages old new outcomes logon status fit is kept called put e = record {
   told = told;
@@ -223,7 +223,7 @@ sent_by told address pages old new outcomes logon status fit is kept called put 
   outcome_is = ap (λ (x : Status). Ended x) (sym e);
 }
 
-by_status : (told : Told) (address pages : List ℕ) (old new : Around) (outcomes : List PageOutcome) (status : Status) → FitSend pages old → IsFile (old.shelf.file pages) told → all_files new.shelf ≡ all_files old.shelf → status ≢ WireFault → status ≢ OutFault
+by_status : (told : FileContent) (address pages : List ℕ) (old new : Around) (outcomes : List PageOutcome) (status : Status) → FitSend pages old → IsFile (old.shelf.file pages) told → all_files new.shelf ≡ all_files old.shelf → status ≢ WireFault → status ≢ OutFault
     → SendsSo told address old.wire new.wire old.out new.out outcomes status → IsSent pages old new (Ended status)
 by_status told address pages old new outcomes Done fit is kept w o h = sent_by told address pages old new outcomes Granted Done fit is kept (h.0).called h.2 (granted (all_sent outcomes) h.1)
 by_status told address pages old new outcomes LogonRefused fit is kept w o h = sent_by told address pages old new outcomes Pending LogonRefused fit is kept (h.0).called h.1 refl
@@ -250,7 +250,7 @@ view address pages old new (Ended FileFault) fit some h = absurd (h.0.unsteady f
 view address pages old new (Ended status) fit some h = inl (is_sent address pages old new status fit h)
 
 -- a file is refused for one fault, where there was memory
-one_fault : (bytes : List ℕ) (a b : PagesFault) → a ≢ Pages.Memory → b ≢ Pages.Memory → IsRefused bytes a → IsRefused bytes b → b ≡ a
+one_fault : (bytes : List ℕ) (a b : PagesFault) → a ≢ Pages.Memory → b ≢ Pages.Memory → IsFileRefused bytes a → IsFileRefused bytes b → b ≡ a
 one_fault bytes Pages.Memory b n m h k = absurd (n refl)
 one_fault bytes a Pages.Memory n m h k = absurd (m refl)
 one_fault bytes Pages.Long Pages.Long n m h k = refl
@@ -259,7 +259,7 @@ one_fault bytes (Pages.Line x) Pages.Long n m h k = absurd (omega (arith, h.0, k
 one_fault bytes (Pages.Line x) (Pages.Line y) n m h k = ap (λ (z : ℕ). Pages.Line z) (one_line bytes y x k.1 h.1)
 
 -- a file that says pages isn't refused
-not_refused : {B : Type 0} (bytes : List ℕ) (told : Told) (fault : PagesFault) → fault ≢ Pages.Memory → IsFile bytes told → IsRefused bytes fault → B
+not_refused : {B : Type 0} (bytes : List ℕ) (told : FileContent) (fault : PagesFault) → fault ≢ Pages.Memory → IsFile bytes told → IsFileRefused bytes fault → B
 not_refused bytes told Pages.Memory n h k = absurd (n refl)
 not_refused bytes told Pages.Long n h k = let a = h.short in absurd (omega (arith, a, k))
 not_refused bytes told (Pages.Line x) n h k = absurd (not_wrong bytes told x h k.1)
@@ -268,7 +268,7 @@ not_refused bytes told (Pages.Line x) n h k = absurd (not_wrong bytes told x h k
 both_sent : (pages : List ℕ) (old new other : Objects) (outcome another : Outcome) → IsSent pages (around old) (around new) outcome → IsSent pages (around old) (around other) another → (another ≡ outcome) × LeftAlike new other
 both_sent pages old new other outcome another h g =
     let same : g.told ≡ h.told = one_told (old.shelf.file pages) g.told h.told g.pages_are h.pages_are in
-    let k : IsCalled h.told old.wire other.wire g.outcomes g.logon = subst (λ (z : Told). IsCalled z old.wire other.wire g.outcomes g.logon) same g.called in
+    let k : IsCalled h.told old.wire other.wire g.outcomes g.logon = subst (λ (z : FileContent). IsCalled z old.wire other.wire g.outcomes g.logon) same g.called in
     let u = h.called in
     let c = same_call h.told (old.wire.connection old.wire.opened).rest u.fed k.fed u.marks k.marks h.outcomes g.outcomes u.said k.said h.logon g.logon u.comes k.comes in (
       g.outcome_is ∙ (ap₂ (λ (l : Logon) (o : List PageOutcome). Ended (status_of (Over l) (all_sent o))) c.logons c.outcomes ∙ sym h.outcome_is),

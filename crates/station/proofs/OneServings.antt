@@ -13,7 +13,7 @@ use Rattle.wires.specs.Held.{Connection}
 use Rattle.wires.specs.Line.{Line}
 use Rattle.wires.specs.Written.{Written}
 use Rattle.serving.specs.declared.session.SessionEnd.{SessionEnd}
-use Rattle.serving.specs.InTurn.{IsAt}
+use Rattle.serving.specs.InTurn.{SessionIsAt}
 use Rattle.serving.specs.ReportLine.{report_line}
 use Rattle.serving.specs.Served.{AllFrom, FitWire, IsWhole, Served, airs, line_for, lines}
 use Rattle.serving.specs.Serving.{Around, AtDone}
@@ -27,7 +27,7 @@ pub record IsGood {settings : Parts} {spare : ℕ} (first now : Line) (k : ℕ) 
   pub within : k < first.count
   pub whole : IsWhole first now k s
 
-goods : {settings : Parts} {spare : ℕ} (first now : Line) (k : ℕ) (ss : List (Served settings spare)) → AllFrom (IsAt first now) k ss → AllFrom (IsWhole first now) k ss → AllFrom (IsGood first now) k ss
+goods : {settings : Parts} {spare : ℕ} (first now : Line) (k : ℕ) (ss : List (Served settings spare)) → AllFrom (SessionIsAt first now) k ss → AllFrom (IsWhole first now) k ss → AllFrom (IsGood first now) k ss
 goods first now k [] at whole = tt
 goods first now k (s ∷ ss) at whole = (record { within = (at.0).within; whole = whole.0 }, goods first now (k + 1) ss at.1 whole.1)
 

@@ -40,7 +40,7 @@ use Rattle.station.specs.ReadFile.{ReadSettings, Unreadable}
 use Rattle.station.specs.Rows.{Acts, Objects, Promises}
 use Rattle.serving.specs.Served.{AllFrom, IsWhole, Served, ServedInTurn, airs}
 use Rattle.serving.specs.Serving.{Around, AtAppendFault, AtFreshFault}
-use Rattle.station.specs.StationRows.{AreFileBits, KeepsAround, ServedBy, StationRow, TrialRow, with_shelf}
+use Rattle.station.specs.StationRows.{AreFileBits, LeavesWireAndOut, ServedBy, StationRow, TrialRow, with_shelf}
 
 -- ---- capcodes of words are usable
 
@@ -181,7 +181,7 @@ fault_promise : (bytes : List ℕ) (settings : Parts) (spare : ℕ) (first : Aro
 fault_promise bytes settings spare first files new address name most (inl fresh) read = tt
 fault_promise bytes settings spare first files new address name most (inr fault) read = served_send bytes first new.wire fault.sessions (fault.unsent ∷ []) fault.wire read
 
-file_promise : (address settings air : List ℕ) (count : ℕ) (old new : Around) (row : (Unreadable settings old.shelf new.shelf × KeepsAround old new) ⊎ ServedBy address settings air count old new FileFault)
+file_promise : (address settings air : List ℕ) (count : ℕ) (old new : Around) (row : (Unreadable settings old.shelf new.shelf × LeavesWireAndOut old new) ⊎ ServedBy address settings air count old new FileFault)
     → FilePromise address settings air count old new row
 file_promise address settings air count old new (inl unread) = tt
 file_promise address settings air count old new (inr by) = fault_promise (old.shelf.file settings) by.parts by.parts.cells old by.shelf new address air count by.served by.read.settings_are

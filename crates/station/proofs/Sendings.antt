@@ -3,12 +3,12 @@ use Rattle.std.proofs.Common.{◌≡◌, ℕ, Bool, List, [], ◌∷◌, drop, R
 use Rattle.std.specs.Borrow.{GName}
 use Rattle.page_text.specs.Page.{Page}
 use Rattle.air.specs.Air.{IsAir}
-use Rattle.air.specs.Sends.{Sends as AirSends}
+use Rattle.air.specs.Sends.{SendsTransmission as AirSends}
 use Rattle.wires.specs.Held.{Bytes, Held, Lent}
 use Rattle.wires.specs.Stacked.{bits_over}
 use Rattle.wires.specs.Written.{Puts, Written}
 use Rattle.wires.proofs.Written.{no_ok}
-use Rattle.station.specs.Sends.{Sends, SendsAll}
+use Rattle.station.specs.Sends.{SendsPage, SendsAll}
 
 -- what a sink of bytes got, by the bits over it
 same_lent : (from to : GName) (b c : Bool) (old new : List Held) → ◌≡◌ {A = List Held} (Lent to ∷ Bytes c ∷ new) (Lent from ∷ Bytes b ∷ old) → ◌≡◌ {A = List Held} (Bytes c ∷ new) (Bytes b ∷ old)
@@ -39,7 +39,7 @@ same_name from to old new e = cc
 -- is still the one that was lent.
 pub page_sends : {Out T E : Type 0} (state : Out → Written ℕ) (accepted : List Page) (page : Page) (name from to : GName) (old below left final : Out)
     (r : Result T E) → accepted ≡ page ∷ [] → below ≡ old → from ≡ name → (name ≡ to → final ≡ left)
-    → AirSends accepted (bits_over from (state below)) (bits_over to (state left)) r → Sends page (state old) (state final) r
+    → AirSends accepted (bits_over from (state below)) (bits_over to (state left)) r → SendsPage page (state old) (state final) r
 page_sends state accepted page name from to old below left final r is e n back h =
     let same : to ≡ from = same_name from to _ _ h.puts.lent in
     let came : final ≡ left = back (sym n ∙ sym same) in

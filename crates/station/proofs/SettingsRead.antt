@@ -3,25 +3,23 @@ use Rattle.std.proofs.Common.{◌≡◌, inl, inr, ℕ, ◌<◌, true, List, len
 use Rattle.std.proofs.lemmas.Bool.{cases_lt}
 use Rattle.std.proofs.lemmas.List.{length-take-le, take_all}
 use Rattle.subscribers.specs.Parts.{Parts}
-use Rattle.subscribers.specs.Settings.{IsOrMemory, most_bytes, settings_of}
+use Rattle.subscribers.specs.Settings.{IsOrMemory, most_settings_bytes, settings_of}
 use Rattle.subscribers.specs.declared.faults.SettingsFault.{SettingsFault}
 use Rattle.subscribers.specs.declared.faults.SettingsFault.TheVariants.{Long, Memory}
 use Rattle.wires.specs.Files.{Files}
-use Rattle.station.specs.ReadFile.{IsUnopened, ReadInto, ReadSettings, ReadsSettings, most_of_file}
-use Rattle.station.specs.declared.opening.Unopened.{Unopened}
-use Rattle.station.specs.declared.opening.Unopened.TheVariants as NotOpened
+use Rattle.station.specs.ReadFile.{HasNoSettings, ReadInto, ReadSettings, RefusedSettings, most_of_file, settings_outcome}
 
 lt_true : (a b : ℕ) → a < b → nat_lt a b ≡ true
 lt_true a b h = grind arith
 
 -- more bytes than settings may have
-settings_of-long : (bytes : List ℕ) → most_bytes < length bytes → settings_of bytes ≡ Err Long
+settings_of-long : (bytes : List ℕ) → most_settings_bytes < length bytes → settings_of bytes ≡ Err Long
 unfolding settings_of
-settings_of-long bytes h = let yes : nat_lt most_bytes (length bytes) ≡ true = lt_true most_bytes (length bytes) h in rw yes refl
+settings_of-long bytes h = let yes : nat_lt most_settings_bytes (length bytes) ≡ true = lt_true most_settings_bytes (length bytes) h in rw yes refl
 
 -- one byte more than they may have is enough to refuse them
 settings_of-take : (bytes : List ℕ) → settings_of (take most_of_file bytes) ≡ settings_of bytes
-settings_of-take bytes = elim (cases_lt most_bytes (length bytes)) [
+settings_of-take bytes = elim (cases_lt most_settings_bytes (length bytes)) [
   | inl long ↦ settings_of-long (take most_of_file bytes) (let n = length-take-le most_of_file bytes (omega (arith, long)) in omega (arith, n)) ∙ sym (settings_of-long bytes long)
   | inr few ↦ ap settings_of (take_all most_of_file bytes (omega (arith, few)))
 ]
@@ -51,17 +49,21 @@ refused : (fault : SettingsFault) (seen : List ℕ) (r : Result Parts SettingsFa
 refused fault seen r e other (inl memory) = absurd (other (ap fault_of (sym e ∙ memory)))
 refused fault seen r e other (inr is) = sym is ∙ e
 
-pub no_settings : (name : List ℕ) (a b : Files) (bytes seen : List ℕ) (fault : SettingsFault) (why : Unopened) (r : Result Parts SettingsFault) → seen ≡ bytes → ReadInto name a b bytes
-    → r ≡ Err fault → IsOrMemory r (settings_of seen) → IsUnopened fault why → ReadsSettings name a b (Err why)
-no_settings name a b bytes seen fault NotOpened.Fault r same read e answer h = elim h [ ]
-no_settings name a b bytes seen fault NotOpened.Memory r same read e answer h = read.unharmed
-no_settings name a b bytes seen fault (NotOpened.Refused other) r same read e answer h =
-    let of_seen : settings_of seen ≡ Err other = refused fault seen r e h.1 answer ∙ ap (λ (f : SettingsFault). Err f) (sym h.0) in
+refused_settings : (name : List ℕ) (a b : Files) (bytes seen : List ℕ) (fault : SettingsFault) (r : Result Parts SettingsFault) → seen ≡ bytes → ReadInto name a b bytes
+    → r ≡ Err fault → (fault ≡ Memory → ⊥) → IsOrMemory r (settings_of seen) → RefusedSettings name a b fault
+refused_settings name a b bytes seen fault r same read e other answer =
+    let of_seen : settings_of seen ≡ Err fault = refused fault seen r e other answer in
     record {
       unharmed = read.unharmed;
       there = read.there;
       refused = λ t. sym (settings_of-take (a.file name)) ∙ (ap settings_of (sym (same ∙ read.bytes_are t)) ∙ of_seen);
       seen = seen;
       of_seen = of_seen;
-      not_memory = λ m. h.1 (sym h.0 ∙ m);
+      not_memory = other;
     }
+
+-- what a command comes to without settings
+pub no_settings : (name : List ℕ) (a b : Files) (bytes seen : List ℕ) (fault : SettingsFault) (r : Result Parts SettingsFault) → seen ≡ bytes → ReadInto name a b bytes
+    → r ≡ Err fault → IsOrMemory r (settings_of seen) → HasNoSettings name a b (settings_outcome fault)
+no_settings name a b bytes seen Memory r same read e answer = inr (refl, read.unharmed)
+no_settings name a b bytes seen fault r same read e answer = refused_settings name a b bytes seen fault r same read e (λ m. cc) answer

@@ -1,5 +1,5 @@
 -- The commands `station` and `trial`, from their parts.
-use Rattle.std.proofs.Common.{◌≡◌, inl, inr, ℕ, Bool, List, [], ◌∷◌, drop, refl, ◌∙◌, ap, subst}
+use Rattle.std.proofs.Common.{◌≡◌, inl, inr, ℕ, Bool, List, [], ◌∷◌, drop, refl, sym, ◌∙◌, ap, subst}
 use Rattle.std.specs.Borrow.{GName}
 use Rattle.subscribers.specs.Parts.{Parts}
 use Rattle.wires.proofs.Written.{and_both}
@@ -8,15 +8,36 @@ use Rattle.wires.specs.Held.{Held, Lent, OfShelf, OtherFiles, Text}
 use Rattle.wires.specs.Left.{Left}
 use Rattle.wires.specs.Stacked.{shelf_bits}
 use Rattle.wires.specs.Written.{Written}
-use Rattle.station.specs.declared.outcomes.Outcome.TheVariants.{Ended}
+use Rattle.station.specs.declared.outcomes.Outcome.{Outcome}
+use Rattle.station.specs.declared.outcomes.Outcome.TheVariants.{Ended, Misread, Refused}
 use Rattle.endings.specs.declared.statuses.Status.{Status}
 use Rattle.endings.specs.declared.statuses.Status.TheVariants.{BadPages, BadSum, BadText, Done, FileFault, InputFault, LogonRefused, Memory, NotBlock, OutFault, Settings, SomeUnsent, TooLong, Usage, WireFault}
 use Rattle.listening.specs.PageLines.{play_lines}
-use Rattle.station.specs.ReadFile.{ReadSettings}
+use Rattle.station.specs.ReadFile.{HasNoSettings, ReadSettings}
 use Rattle.serving.specs.Serving.{Around, HasServed}
 use Rattle.station.specs.StationRows.{AreFileBits, ServedBy, StationRow, TrialRow, TriedBy, TriesFile, with_shelf}
 use Rattle.serving.specs.Trying.{Tries}
 use Rattle.serving.proofs.TriedWell.{tried_well}
+
+-- `station` without settings
+pub unset_station : (address settings air : List ℕ) (count : ℕ) (old : Around) (shelf : Files) (outcome : Outcome) → HasNoSettings settings old.shelf shelf outcome
+    → StationRow address settings air count old (with_shelf old shelf) outcome
+unset_station address settings air count old shelf (Refused fault) h = (h, record { wire = refl; out = refl })
+unset_station address settings air count old shelf (Misread fault) h = elim h [ ]
+unset_station address settings air count old shelf (Ended status) (inl h) =
+    subst (λ (s : Status). StationRow address settings air count old (with_shelf old shelf) (Ended s)) (sym h.0) (inl (h.1, record { wire = refl; out = refl }))
+unset_station address settings air count old shelf (Ended status) (inr h) =
+    subst (λ (s : Status). StationRow address settings air count old (with_shelf old shelf) (Ended s)) (sym h.0) (h.1, record { wire = refl; out = refl })
+
+-- `trial` without settings
+pub unset_trial : (settings noise capcodes : List ℕ) (input : Left ℕ) (old new : Files) (out : Written ℕ) (outcome : Outcome) → HasNoSettings settings old new outcome
+    → TrialRow settings noise capcodes input input old new out out outcome
+unset_trial settings noise capcodes input old new out (Refused fault) h = (h, refl, refl)
+unset_trial settings noise capcodes input old new out (Misread fault) h = elim h [ ]
+unset_trial settings noise capcodes input old new out (Ended status) (inl h) =
+    subst (λ (s : Status). TrialRow settings noise capcodes input input old new out out (Ended s)) (sym h.0) (inl (h.1, refl, refl))
+unset_trial settings noise capcodes input old new out (Ended status) (inr h) =
+    subst (λ (s : Status). TrialRow settings noise capcodes input input old new out out (Ended s)) (sym h.0) (h.1, refl, refl)
 
 -- connections were served by settings
 served_by : (address settings air : List ℕ) (count : ℕ) (old new : Around) (parts s : Parts) (shelf : Files) (n : ℕ) (status : Status) → s ≡ parts → n ≡ parts.cells

@@ -8,7 +8,7 @@ use Rattle.station.specs.declared.outcomes.Outcome.TheVariants.{Ended, Misread, 
 use Rattle.endings.specs.declared.statuses.Status.{Status}
 use Rattle.endings.specs.declared.statuses.Status.TheVariants.{BadPages, Done, OutFault, Settings}
 use Rattle.station.specs.Outcomes.{ErrWell, Tells, TellsMisread, TellsOutcome, TellsRefusal, pages_line, settings_line}
-use Rattle.endings.specs.Statuses.{line_of}
+use Rattle.endings.specs.Statuses.{status_line}
 use Rattle.endings.specs.Wrote.{FitFor, StaysWell, Wrote}
 
 -- nothing was put
@@ -19,13 +19,13 @@ put_well : (old new : Written ℕ) (line : List ℕ) → Wrote old new line → 
 put_well old new line h fit = record { steady = h.steady fit.tells fit.steady fit.room; faults = h.faults }
 
 -- the line about a status
-told_status : (status : Status) (old new : Written ℕ) (result : Status) → FitFor old (line_of status) → Tells status old new result → (result ≡ OutFault → status ≡ OutFault) × StaysWell old new
+told_status : (status : Status) (old new : Written ℕ) (result : Status) → FitFor old (status_line status) → Tells status old new result → (result ≡ OutFault → status ≡ OutFault) × StaysWell old new
 told_status Done old new result fit h = (λ e. sym h.0 ∙ e, untouched old new h.1 fit.steady)
 told_status OutFault old new result fit h = (λ e. refl, untouched old new h.1 fit.steady)
 told_status Settings old new result fit h = (λ e. sym h.0 ∙ e, untouched old new h.1 fit.steady)
 told_status BadPages old new result fit h = (λ e. sym h.0 ∙ e, untouched old new h.1 fit.steady)
 told_status status old new OutFault fit h = absurd (h.unfit fit.tells fit.steady fit.room)
-told_status status old new result fit h = (λ e. sym h.0 ∙ e, put_well old new (line_of status) h.1 fit)
+told_status status old new result fit h = (λ e. sym h.0 ∙ e, put_well old new (status_line status) h.1 fit)
 
 told_refusal : (old new : Written ℕ) (line : List ℕ) (fault : SettingsFault) (result : Status) → line ≡ settings_line fault → FitFor old line → TellsRefusal fault old new result
     → (result ≡ OutFault → Settings ≡ OutFault) × StaysWell old new

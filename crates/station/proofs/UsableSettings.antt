@@ -10,10 +10,10 @@ use Rattle.codeword.specs.Capcodes.{IsUsable}
 use Rattle.codeword.specs.declared.functions.Function.{Function}
 use Rattle.subscribers.proofs.Directories.{id_cmp}
 use Rattle.subscribers.proofs.Usable.{IsUsable-from_is_usable}
-use Rattle.subscribers.specs.Entries.{is_id, is_usable, capcode_of, function_of, with_class, with_capcode, subscriber_of, places, Listed, listed_as, listed, joined, all_or_first_fault, listed_all, map_of, ids_of}
-use Rattle.subscribers.specs.Form.{Entry, Form, form_of}
+use Rattle.subscribers.specs.Entries.{is_id, is_usable, capcode_of, function_of_class, with_class, with_capcode, subscriber_of, with_earlier, Listed, listed_as, listed, joined_results, all_or_first_fault, listed_all, map_of, ids_of}
+use Rattle.subscribers.specs.Form.{SubscriberEntry, Form, form_of}
 use Rattle.subscribers.specs.Parts.{Ids, Parts}
-use Rattle.subscribers.specs.Settings.{most_bytes, most_entries, is_password_or_none, cells_of, parts_of, with_cells, settings_of_form, of_form, of_tree, tree_of, settings_of}
+use Rattle.subscribers.specs.Settings.{most_settings_bytes, most_entries, is_password_or_none, cells_in_range, parts_of, with_cells, settings_of_form, of_form, of_tree, tree_of, settings_of}
 use Rattle.subscribers.specs.declared.faults.SettingsFault.{SettingsFault}
 use Rattle.subscribers.specs.declared.faults.SettingsFault.TheVariants.{Long, Password, TooMany, Id, IdTwice}
 use Rattle.subscribers.specs.declared.subscriber.Subscriber.{Subscriber}
@@ -56,13 +56,13 @@ IsUsable-from_with_capcode : (n : ℕ) (o : Option ℕ) (f : Option Function) (s
 IsUsable-from_with_capcode n None f s u h = no_fault _ s h
 IsUsable-from_with_capcode n (Some k) f s u h = IsUsable-from_with_class n k f s (u k refl) h
 
-IsUsable-from_subscriber_of : (n : ℕ) (twice : Bool) (e : Entry) (s : Subscriber) → subscriber_of n twice e ≡ Ok s → IsUsable s.capcode
+IsUsable-from_subscriber_of : (n : ℕ) (twice : Bool) (e : SubscriberEntry) (s : Subscriber) → subscriber_of n twice e ≡ Ok s → IsUsable s.capcode
 unfolding subscriber_of
 IsUsable-from_subscriber_of n twice e s h =
-    let rest : Result Subscriber SettingsFault = with_capcode n (capcode_of e.capcode) (function_of e.class) in
+    let rest : Result Subscriber SettingsFault = with_capcode n (capcode_of e.capcode) (function_of_class e.class) in
     let one = Ok-from_else (not (is_id e.id)) (Id n) (cond twice (Err (IdTwice n)) rest) s h in
     let two = Ok-from_else twice (IdTwice n) rest s one in
-    IsUsable-from_with_capcode n (capcode_of e.capcode) (function_of e.class) s (IsUsable-from_capcode_of e.capcode) two
+    IsUsable-from_with_capcode n (capcode_of e.capcode) (function_of_class e.class) s (IsUsable-from_capcode_of e.capcode) two
 
 -- ---- all entries
 
@@ -72,19 +72,19 @@ AllUsable ids = AllByRecursion (λ (i : Listed). IsUsable i.1.capcode) ids
 
 AllUsable-joined : (id : List ℕ) (r : Result Subscriber SettingsFault) (rest : Result (List Listed) SettingsFault) (ids : List Listed)
     → ((s : Subscriber) → r ≡ Ok s → IsUsable s.capcode) → ((others : List Listed) → rest ≡ Ok others → AllUsable others)
-    → joined (listed_as id r) rest ≡ Ok ids → AllUsable ids
+    → joined_results (listed_as id r) rest ≡ Ok ids → AllUsable ids
 AllUsable-joined id (Err fault) rest ids one more h = no_fault fault ids h
 AllUsable-joined id (Ok s) (Err fault) ids one more h = no_fault fault ids h
 AllUsable-joined id (Ok s) (Ok others) ids one more h = subst AllUsable (ok_same ((id, s) ∷ others) ids h) (one s refl, more others refl)
 
-AllUsable-from_places : (ps : List (List Entry × Entry)) (ids : List Listed) → all_or_first_fault (map listed ps) ≡ Ok ids → AllUsable ids
+AllUsable-from_places : (ps : List (List SubscriberEntry × SubscriberEntry)) (ids : List Listed) → all_or_first_fault (map listed ps) ≡ Ok ids → AllUsable ids
 AllUsable-from_places [] ids h = subst AllUsable (ok_same [] ids h) tt
 AllUsable-from_places (p ∷ ps) ids h =
     AllUsable-joined p.1.id _ (all_or_first_fault (map listed ps)) ids (λ s. IsUsable-from_subscriber_of _ _ p.1 s) (AllUsable-from_places ps) h
 
-AllUsable-from_listed_all : (es : List Entry) (ids : List Listed) → listed_all es ≡ Ok ids → AllUsable ids
+AllUsable-from_listed_all : (es : List SubscriberEntry) (ids : List Listed) → listed_all es ≡ Ok ids → AllUsable ids
 unfolding listed_all
-AllUsable-from_listed_all es ids h = AllUsable-from_places (places es) ids h
+AllUsable-from_listed_all es ids h = AllUsable-from_places (with_earlier es) ids h
 
 -- ---- the map
 
@@ -102,7 +102,7 @@ GivesUsable-map_of (Ok ids) d u h =
     subst (λ (m : Ids). GivesUsable (get m)) (ok_same (from_entries ids) d h)
     (λ id s e. IsUsable-from_find ids id s (u ids refl) (sym (get-from_entries nat_list_cmp_total ids id) ∙ e))
 
-GivesUsable-ids_of : (es : List Entry) (d : Ids) → ids_of es ≡ Ok d → GivesUsable (get d)
+GivesUsable-ids_of : (es : List SubscriberEntry) (d : Ids) → ids_of es ≡ Ok d → GivesUsable (get d)
 GivesUsable-ids_of es d h = GivesUsable-map_of (listed_all es) d (AllUsable-from_listed_all es) h
 
 -- ---- the settings
@@ -121,7 +121,7 @@ GivesUsable-with_cells form (Some cells) parts h =
 GivesUsable-settings_of_form : (form : Form) (parts : Parts) → settings_of_form form ≡ Ok parts → GivesUsable (get parts.ids)
 unfolding settings_of_form
 GivesUsable-settings_of_form form parts h =
-    GivesUsable-with_cells form (cells_of form.cells) parts (Ok-from_then (is_password_or_none form.password) Password (with_cells form (cells_of form.cells)) parts h)
+    GivesUsable-with_cells form (cells_in_range form.cells) parts (Ok-from_then (is_password_or_none form.password) Password (with_cells form (cells_in_range form.cells)) parts h)
 
 GivesUsable-of_form : (o : Option Form) (parts : Parts) → of_form o ≡ Ok parts → GivesUsable (get parts.ids)
 GivesUsable-of_form None parts h = no_fault _ parts h
@@ -135,4 +135,4 @@ GivesUsable-of_tree (Some tree) parts h = GivesUsable-of_form (form_of tree) par
 pub IsUsable-from_settings_of : (bytes : List ℕ) (parts : Parts) → settings_of bytes ≡ Ok parts → (id : List ℕ) (s : Subscriber) → get parts.ids id ≡ Some s → IsUsable s.capcode
 unfolding settings_of
 IsUsable-from_settings_of bytes parts h =
-    GivesUsable-of_tree (tree_of bytes) parts (Ok-from_else (nat_lt most_bytes (length bytes)) Long (of_tree (tree_of bytes)) parts h)
+    GivesUsable-of_tree (tree_of bytes) parts (Ok-from_else (nat_lt most_settings_bytes (length bytes)) Long (of_tree (tree_of bytes)) parts h)

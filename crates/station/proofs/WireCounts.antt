@@ -5,7 +5,7 @@ use Rattle.station.specs.declared.outcomes.Outcome.{Outcome}
 use Rattle.station.specs.declared.outcomes.Outcome.TheVariants.{Ended, Misread, Refused}
 use Rattle.endings.specs.declared.statuses.Status.{Status}
 use Rattle.endings.specs.declared.statuses.Status.TheVariants.{Done, FileFault, LogonRefused, Memory, OutFault, SomeUnsent, WireFault}
-use Rattle.tap_entry.specs.PagesFile.{Told}
+use Rattle.tap_entry.specs.PagesFile.{FileContent}
 use Rattle.tap_entry.specs.declared.outcomes.Outcome.{Outcome as Sent}
 use Rattle.calling.specs.declared.stages.Ending.{Ending}
 use Rattle.tap_entry.specs.declared.faults.PagesFault.TheVariants as Pages
@@ -14,7 +14,7 @@ use Rattle.wires.specs.Written.{Written}
 use Rattle.calling.specs.Calls.{CallsUp, SendsSo}
 use Rattle.station.specs.SendRows.{SendRow}
 use Rattle.station.specs.Commands.{Command, One, Play, Send, Show, Station, Trial}
-use Rattle.station.specs.Rows.{Acts, Came, Objects, Outside, Runs}
+use Rattle.station.specs.Rows.{Acts, HasEndedSo, Objects, Outside, Runs}
 use Rattle.serving.specs.Serving.{Around, HasServed}
 use Rattle.station.specs.StationRows.{StationRow, with_shelf}
 use Rattle.serving.proofs.InTurn.{turn-keeps}
@@ -35,11 +35,11 @@ count-station address settings air count old new (Ended FileFault) (inl h) = ap 
 count-station address settings air count old new (Ended FileFault) (inr h) = count-served h.parts h.parts.cells (with_shelf old h.shelf) new address air count FileFault h.served
 count-station address settings air count old new (Ended status) h = count-served h.parts h.parts.cells (with_shelf old h.shelf) new address air count status h.served
 
-count-call : (told : Told) (address : List ℕ) (old new : Line) (outcomes : List Sent) (ending : Ending) → CallsUp told address old new outcomes ending → new.count ≡ old.count
+count-call : (told : FileContent) (address : List ℕ) (old new : Line) (outcomes : List Sent) (ending : Ending) → CallsUp told address old new outcomes ending → new.count ≡ old.count
 count-call told address old new outcomes ending (inl h) = h.came.line.count ∙ h.opens.count
 count-call told address old new outcomes ending (inr h) = h.failed.count
 
-count-sends : (told : Told) (address : List ℕ) (old new : Line) (out0 out1 : Written ℕ) (outcomes : List Sent) (status : Status) → SendsSo told address old new out0 out1 outcomes status → new.count ≡ old.count
+count-sends : (told : FileContent) (address : List ℕ) (old new : Line) (out0 out1 : Written ℕ) (outcomes : List Sent) (status : Status) → SendsSo told address old new out0 out1 outcomes status → new.count ≡ old.count
 count-sends told address old new out0 out1 outcomes Done h = count-call told address old new outcomes _ (inl h.0.called)
 count-sends told address old new out0 out1 outcomes LogonRefused h = count-call told address old new outcomes _ (inl h.0.called)
 count-sends told address old new out0 out1 outcomes SomeUnsent h = count-call told address old new outcomes _ (inl h.0.called)
@@ -55,7 +55,7 @@ count-send address name old new (Ended Memory) h = ap (λ wire. wire.count) h.1.
 count-send address name old new (Ended FileFault) h = ap (λ wire. wire.count) h.1.wire
 count-send address name old new (Ended status) h = count-sends h.told address old.wire new.wire old.out new.out h.sends.outcomes status h.sends.sends
 
-came : (row : Status → Type 0) (outcome : Outcome) (x y : ℕ) → ((status : Status) → row status → x ≡ y) → Came row outcome → x ≡ y
+came : (row : Status → Type 0) (outcome : Outcome) (x y : ℕ) → ((status : Status) → row status → x ≡ y) → HasEndedSo row outcome → x ≡ y
 came row (Ended status) x y f h = f status h
 came row (Refused fault) x y f h = elim h [ ]
 came row (Misread fault) x y f h = elim h [ ]

@@ -1,7 +1,7 @@
 -- How much room a station's air and its replies take.
 use Rattle.std.specs.Prelude.{ℕ, ◌+◌, ◌*◌, ◌<◌, ◌≤◌, ◌⊎◌, List, length, IsTrue}
 use Rattle.subscribers.specs.Parts.{Parts}
-use Rattle.tap_entry.specs.PagesFile.{IsFile, Told}
+use Rattle.tap_entry.specs.PagesFile.{IsFile, FileContent}
 use Rattle.wires.specs.Files.{Files, longest_name}
 use Rattle.wires.specs.Held.{Connection}
 use Rattle.wires.specs.Line.{Line}
@@ -33,4 +33,4 @@ most_said pages heard = 14 + 256 * (pages + heard)
 
 -- A connection has room for all that a client may say for a file, where it has room for the most that is said for its pages.
 abbrev pub CallFits : Type 0
-CallFits = (bytes : List ℕ) (told : Told) (c : Connection) → IsFile bytes told → most_said (length told.pages) (length c.rest) ≤ c.room → HasRoom told c
+CallFits = (bytes : List ℕ) (told : FileContent) (c : Connection) → IsFile bytes told → most_said (length told.pages) (length c.rest) ≤ c.room → HasRoom told c

@@ -11,7 +11,7 @@ use Rattle.subscribers.specs.declared.subscriber.Subscriber.{Subscriber}
 use Rattle.tap_terminal.specs.Replies.{replies}
 use Rattle.tap_terminal.specs.Session.{Session}
 use Rattle.subscribers.specs.Directory.{Directory, directory_of}
-use Rattle.tap_entry.specs.Client.{Client, IsPage, Page}
+use Rattle.tap_entry.specs.Client.{Client, IsPage, PageToSend}
 use Rattle.tap_entry.specs.Marks.{AreHeard}
 use Rattle.tap_entry.specs.PagesFile.{IsPassword}
 use Rattle.tap_entry.specs.declared.hearing.Mark.{Mark}
@@ -24,7 +24,7 @@ use Rattle.serving.specs.Sessions.{SessionOf}
 -- says for them what the terminal has this session of.
 pub record Call (settings : Parts) (spare : ℕ) : Type 0 where
   pub password : Option (List ℕ)
-  pub pages : List Page
+  pub pages : List PageToSend
   pub replied : List ℕ
   pub said : List ℕ
   pub marks : List Mark
@@ -44,7 +44,7 @@ page_for None text = []
 page_for (Some s) text = record { capcode = s.capcode; function = s.function; text = text } ∷ []
 
 -- the pages of a client, each as one of its id's subscriber
-abbrev pub pages_for : Directory → List Page → List Accepted
+abbrev pub pages_for : Directory → List PageToSend → List Accepted
 pages_for directory pages = flat_map (λ page. page_for (directory page.id) page.text) pages
 
 -- the pages that the sessions of calls accepted, session by session

@@ -1,6 +1,6 @@
 -- Two runs of `send` over the same objects, where no call fails, come to the same.
 use Rattle.std.specs.Prelude.{◌≡◌, ◌≢◌, ℕ, ◌*◌, ◌<◌, ◌≤◌, List, length, IsTrue}
-use Rattle.tap_entry.specs.PagesFile.{IsFile, Told}
+use Rattle.tap_entry.specs.PagesFile.{IsFile, FileContent}
 use Rattle.station.specs.declared.outcomes.Outcome.{Outcome}
 use Rattle.station.specs.declared.outcomes.Outcome.TheVariants.{Ended}
 use Rattle.endings.specs.declared.statuses.Status.TheVariants.{Memory}
@@ -18,10 +18,10 @@ pub record FitSend (pages : List ℕ) (old : Around) : Type 0 where
   pub wire_tells : IsTrue old.wire.tells
   pub wire_steady : IsTrue old.wire.steady
   pub left : old.wire.opened < old.wire.count
-  pub wire_room : (told : Told) → IsFile (old.shelf.file pages) told → HasRoom told (old.wire.connection old.wire.opened)
+  pub wire_room : (told : FileContent) → IsFile (old.shelf.file pages) told → HasRoom told (old.wire.connection old.wire.opened)
   pub out_tells : IsTrue old.out.tells
   pub out_steady : IsTrue old.out.steady
-  pub out_room : (told : Told) → IsFile (old.shelf.file pages) told → 20 * length told.pages ≤ old.out.room
+  pub out_room : (told : FileContent) → IsFile (old.shelf.file pages) told → 20 * length told.pages ≤ old.out.room
 
 -- Over fit objects two runs of `send` that had memory answer the same, and leave the same.
 abbrev pub OneSend : Type 0

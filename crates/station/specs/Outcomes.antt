@@ -9,7 +9,7 @@ use Rattle.station.specs.declared.outcomes.Outcome.{Outcome}
 use Rattle.station.specs.declared.outcomes.Outcome.TheVariants.{Ended, Misread, Refused}
 use Rattle.endings.specs.declared.statuses.Status.{Status}
 use Rattle.endings.specs.declared.statuses.Status.TheVariants.{BadPages, Done, OutFault, Settings}
-use Rattle.endings.specs.Statuses.{line_of}
+use Rattle.endings.specs.Statuses.{status_line}
 use Rattle.endings.specs.Wrote.{FitFor, StaysWell, Wrote, WroteFront}
 
 -- what is said of a settings file that is refused. The numbers count entries from 1
@@ -46,8 +46,8 @@ Tells Done old new result = (result ≡ Done) × (new ≡ old)
 Tells OutFault old new result = (result ≡ OutFault) × (new ≡ old)
 Tells Settings old new result = (result ≡ Settings) × (new ≡ old)
 Tells BadPages old new result = (result ≡ BadPages) × (new ≡ old)
-Tells status old new OutFault = WroteFront old new (line_of status)
-Tells status old new result = (result ≡ status) × Wrote old new (line_of status)
+Tells status old new OutFault = WroteFront old new (status_line status)
+Tells status old new result = (result ≡ status) × Wrote old new (status_line status)
 
 -- The line about a refused settings file was put to err, and the run ends with Settings. Where putting it failed, it ends with OutFault.
 abbrev pub TellsRefusal : SettingsFault → Written ℕ → Written ℕ → Status → Type 0
@@ -67,7 +67,7 @@ TellsOutcome (Misread fault) old new result = TellsMisread fault old new result
 
 -- the line about what a command came to
 abbrev pub line_about : Outcome → List ℕ
-line_about (Ended status) = line_of status
+line_about (Ended status) = status_line status
 line_about (Refused fault) = settings_line fault
 line_about (Misread fault) = pages_line fault
 

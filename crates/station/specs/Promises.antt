@@ -23,7 +23,7 @@ use Rattle.serving.specs.Served.{AllFrom, NextFit, Served, airs}
 use Rattle.station.specs.ReadFile.{Unreadable}
 use Rattle.serving.specs.Serving.{Around, AtAppendFault, AtFreshFault}
 use Rattle.serving.specs.Sessions.{SessionOf}
-use Rattle.station.specs.StationRows.{KeepsAround, ServedBy, StationRow, TrialRow, with_shelf}
+use Rattle.station.specs.StationRows.{LeavesWireAndOut, ServedBy, StationRow, TrialRow, with_shelf}
 
 -- What each receiver, by its number, prints of each frame are exactly the pages of its capcodes in these lists, in order, each with its
 -- text.
@@ -85,7 +85,7 @@ FaultPromise settings spare first old new address name most (inr fault) = Served
 
 -- where a file failed: the settings file wasn't read, or the air failed
 abbrev pub FilePromise : (address settings air : List ℕ) (count : ℕ) (old new : Around)
-    → (Unreadable settings old.shelf new.shelf × KeepsAround old new) ⊎ ServedBy address settings air count old new FileFault → Type 0
+    → (Unreadable settings old.shelf new.shelf × LeavesWireAndOut old new) ⊎ ServedBy address settings air count old new FileFault → Type 0
 FilePromise address settings air count old new (inl unread) = Unit {0}
 FilePromise address settings air count old new (inr by) = FaultPromise by.parts by.parts.cells old (with_shelf old by.shelf) new address air count by.served
 

@@ -1,5 +1,5 @@
 -- Files that are read into memory, and the settings that one gives.
-use Rattle.std.specs.Prelude.{◌≡◌, ◌≢◌, ℕ, List, take, Result, Ok, Err, IsTrue, Vec}
+use Rattle.std.specs.Prelude.{◌≡◌, ◌≢◌, ◌⊎◌, ℕ, List, take, Result, Ok, Err, IsTrue, Vec}
 use Rattle.std.specs.declared.alloc.Global.{Global}
 use Rattle.subscribers.specs.Parts.{Parts}
 use Rattle.subscribers.specs.Settings.{settings_of}
@@ -7,10 +7,10 @@ use Rattle.subscribers.specs.declared.faults.SettingsFault.{SettingsFault}
 use Rattle.subscribers.specs.declared.faults.SettingsFault.TheVariants.{Memory as NoMemory}
 use Rattle.wires.specs.Causes.{Rose}
 use Rattle.wires.specs.Files.{Files, all_files}
-use Rattle.station.specs.declared.files.Unread.{Unread}
-use Rattle.station.specs.declared.files.Unread.TheVariants as NotRead
-use Rattle.station.specs.declared.opening.Unopened.{Unopened}
-use Rattle.station.specs.declared.opening.Unopened.TheVariants as NotOpened
+use Rattle.endings.specs.declared.statuses.Status.{Status}
+use Rattle.endings.specs.declared.statuses.Status.TheVariants.{FileFault, Memory}
+use Rattle.station.specs.declared.outcomes.Outcome.{Outcome}
+use Rattle.station.specs.declared.outcomes.Outcome.TheVariants.{Ended, Misread, Refused}
 
 -- of a settings file so many bytes are read at most: one more than it may have
 abbrev pub most_of_file : ℕ
@@ -40,11 +40,14 @@ pub record ReadInto (name : List ℕ) (old new : Files) (bytes : List ℕ) : Typ
   pub there : IsTrue old.tells → IsTrue (old.there name)
   pub bytes_are : IsTrue old.tells → bytes ≡ take most_of_file (old.file name)
 
+-- a file wasn't read into memory: a read failed, or there was no memory
+abbrev pub IsUnread : List ℕ → Files → Files → Status → Type 0
+IsUnread name old new status = ((status ≡ FileFault) × Unreadable name old new) ⊎ ((status ≡ Memory) × Unharmed name old new)
+
 -- a read of a file into memory
-abbrev pub ReadsFile : List ℕ → Files → Files → Result (Vec ℕ Global) Unread → Type 0
+abbrev pub ReadsFile : List ℕ → Files → Files → Result (Vec ℕ Global) Status → Type 0
 ReadsFile name old new (Ok bytes) = ReadInto name old new bytes.items
-ReadsFile name old new (Err NotRead.Fault) = Unreadable name old new
-ReadsFile name old new (Err NotRead.Memory) = Unharmed name old new
+ReadsFile name old new (Err status) = IsUnread name old new status
 
 -- The file was there and was read, and gives these settings. Those of a shelf that doesn't tell are the settings of some bytes.
 pub record ReadSettings (name : List ℕ) (old new : Files) (settings : Parts) : Type 0 where
@@ -64,15 +67,18 @@ pub record RefusedSettings (name : List ℕ) (old new : Files) (fault : Settings
   pub of_seen : settings_of seen ≡ Err fault
   pub not_memory : fault ≢ NoMemory
 
--- a read of a settings file
-abbrev pub ReadsSettings : List ℕ → Files → Files → Result Parts Unopened → Type 0
-ReadsSettings name old new (Ok settings) = ReadSettings name old new settings
-ReadsSettings name old new (Err NotOpened.Fault) = Unreadable name old new
-ReadsSettings name old new (Err NotOpened.Memory) = Unharmed name old new
-ReadsSettings name old new (Err (NotOpened.Refused fault)) = RefusedSettings name old new fault
+-- what a command comes to whose settings file is refused so
+abbrev pub settings_outcome : SettingsFault → Outcome
+settings_outcome NoMemory = Ended Memory
+settings_outcome fault = Refused fault
 
--- why there are no settings, by the fault of their file
-abbrev pub IsUnopened : SettingsFault → Unopened → Type 0
-IsUnopened fault NotOpened.Fault = ⊥
-IsUnopened fault NotOpened.Memory = fault ≡ NoMemory
-IsUnopened fault (NotOpened.Refused other) = (other ≡ fault) × (fault ≡ NoMemory → ⊥)
+-- a settings file gave none, and this is what a command comes to without them
+abbrev pub HasNoSettings : List ℕ → Files → Files → Outcome → Type 0
+HasNoSettings name old new (Ended status) = IsUnread name old new status
+HasNoSettings name old new (Refused fault) = RefusedSettings name old new fault
+HasNoSettings name old new (Misread fault) = ⊥
+
+-- a read of a settings file
+abbrev pub ReadsSettings : List ℕ → Files → Files → Result Parts Outcome → Type 0
+ReadsSettings name old new (Ok settings) = ReadSettings name old new settings
+ReadsSettings name old new (Err outcome) = HasNoSettings name old new outcome

@@ -140,17 +140,17 @@ pub record RunsSend (address pages : List ℕ) (old new : Objects) (outcome : Ou
   pub input : new.streams.input ≡ old.streams.input
 
 -- an outcome that is a status
-abbrev pub Came : (Status → Type 0) → Outcome → Type 0
-Came row (Ended status) = row status
-Came row (Refused fault) = ⊥
-Came row (Misread fault) = ⊥
+abbrev pub HasEndedSo : (Status → Type 0) → Outcome → Type 0
+HasEndedSo row (Ended status) = row status
+HasEndedSo row (Refused fault) = ⊥
+HasEndedSo row (Misread fault) = ⊥
 
 -- what a run's command did: words that are no command's form are answered Usage, and nothing is touched
 abbrev pub Acts : Option Command → Objects → Objects → Outcome → Type 0
 Acts None old new outcome = (outcome ≡ Ended Usage) × (new ≡ old)
-Acts (Some (One capcode)) old new outcome = Came (RunsOne capcode old new) outcome
-Acts (Some (Play air capcodes)) old new outcome = Came (RunsPlay capcodes air old new) outcome
-Acts (Some (Show air)) old new outcome = Came (RunsShow air old new) outcome
+Acts (Some (One capcode)) old new outcome = HasEndedSo (RunsOne capcode old new) outcome
+Acts (Some (Play air capcodes)) old new outcome = HasEndedSo (RunsPlay capcodes air old new) outcome
+Acts (Some (Show air)) old new outcome = HasEndedSo (RunsShow air old new) outcome
 Acts (Some (Station address settings air count)) old new outcome = RunsStation address settings air count old new outcome
 Acts (Some (Trial settings noise capcodes)) old new outcome = RunsTrial settings noise capcodes old new outcome
 Acts (Some (Send address pages)) old new outcome = RunsSend address pages old new outcome

@@ -11,7 +11,7 @@ SendsAll old new bits (Ok _) = Wrote (as_bits old) (as_bits new) bits
 SendsAll old new bits (Err _) = WroteFront (as_bits old) (as_bits new) bits
 
 -- the bits of the transmission of one page were written, or after Failed a front of them
-pub record Sends {T E : Type 0} (page : Page) (old new : Written ℕ) (result : Result T E) : Type 0 where
+pub record SendsPage {T E : Type 0} (page : Page) (old new : Written ℕ) (result : Result T E) : Type 0 where
   pub bits : List Bool
   pub air : IsAir (page ∷ []) bits
   pub sends : SendsAll old new bits result

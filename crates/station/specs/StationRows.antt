@@ -5,8 +5,6 @@ use Rattle.subscribers.specs.Parts.{Parts}
 use Rattle.wires.specs.Files.{Files}
 use Rattle.wires.specs.Left.{Left}
 use Rattle.wires.specs.Written.{Written}
-use Rattle.station.specs.declared.opening.Unopened.{Unopened}
-use Rattle.station.specs.declared.opening.Unopened.TheVariants as NotOpened
 use Rattle.station.specs.declared.outcomes.Outcome.{Outcome}
 use Rattle.station.specs.declared.outcomes.Outcome.TheVariants.{Ended, Misread, Refused}
 use Rattle.endings.specs.declared.statuses.Status.{Status}
@@ -28,17 +26,17 @@ pub record ServedBy (address settings air : List ℕ) (count : ℕ) (old new : A
   pub served : HasServed parts parts.cells (with_shelf old shelf) new address air count status
 
 -- Wire and output are as they were.
-pub record KeepsAround (old new : Around) : Type 0 where
+pub record LeavesWireAndOut (old new : Around) : Type 0 where
   pub wire : new.wire ≡ old.wire
   pub out : new.out ≡ old.out
 
 -- `station`, by what it came to
 abbrev pub StationRow : List ℕ → List ℕ → List ℕ → ℕ → Around → Around → Outcome → Type 0
-StationRow address settings air count old new (Refused fault) = RefusedSettings settings old.shelf new.shelf fault × KeepsAround old new
+StationRow address settings air count old new (Refused fault) = RefusedSettings settings old.shelf new.shelf fault × LeavesWireAndOut old new
 StationRow address settings air count old new (Misread fault) = ⊥
-StationRow address settings air count old new (Ended Memory) = Unharmed settings old.shelf new.shelf × KeepsAround old new
+StationRow address settings air count old new (Ended Memory) = Unharmed settings old.shelf new.shelf × LeavesWireAndOut old new
 StationRow address settings air count old new (Ended FileFault) =
-    (Unreadable settings old.shelf new.shelf × KeepsAround old new) ⊎ ServedBy address settings air count old new FileFault
+    (Unreadable settings old.shelf new.shelf × LeavesWireAndOut old new) ⊎ ServedBy address settings air count old new FileFault
 StationRow address settings air count old new (Ended status) = ServedBy address settings air count old new status
 
 -- these are the bits of a file's bytes
@@ -76,9 +74,3 @@ TrialRow settings noise capcodes input0 input old new out0 out (Ended Memory) = 
 TrialRow settings noise capcodes input0 input old new out0 out (Ended FileFault) =
     (Unreadable settings old new × (input ≡ input0) × (out ≡ out0)) ⊎ TriedBy settings noise capcodes input0 input old new out0 out FileFault
 TrialRow settings noise capcodes input0 input old new out0 out (Ended status) = TriedBy settings noise capcodes input0 input old new out0 out status
-
--- what a command without settings comes to, by why it has none
-abbrev pub ComesTo : Unopened → Outcome → Type 0
-ComesTo NotOpened.Fault outcome = outcome ≡ Ended FileFault
-ComesTo NotOpened.Memory outcome = outcome ≡ Ended Memory
-ComesTo (NotOpened.Refused fault) outcome = outcome ≡ Refused fault

@@ -6,11 +6,10 @@
 //! - `top`: `run`.
 //! - `commands`: the command lines, and `capcodes`, the capcodes that one lists.
 //! - `outcomes`: what a command comes to, with `tell`, which puts the line about a status.
-//! - `one_page`: the command `one`, with `input`, which reads the front of the input, `blocks`, its one block, and `texts`, the text of
-//!   the block's content.
-//! - `settings_runs`: the commands `station` and `trial`, with `opening`, which reads their settings.
+//! - `one_page`: the command `one`: its one block, the text of the block's content, and the transmission.
+//! - `settings_runs`: the commands `station` and `trial`, which read settings.
 //! - `pages_runs`: the command `send`, with its pages file.
-//! - `files`: reading a file into memory.
+//! - `files`: reading a file into memory, and the settings that it gives.
 //! - `laws`: what one run comes to, the way from clients to receivers, and the room that a station takes.
 //!
 //! The parts that a command is made of are crates of their own: `listening` (bits to printed lines), `calling` (the client),
@@ -19,20 +18,16 @@
 
 #[cfg(test)]
 mod air_tests;
-mod blocks;
 mod capcodes;
 mod commands;
 mod files;
-mod input;
 pub mod laws;
 pub mod one_page;
-mod opening;
 pub mod outcomes;
 mod pages_runs;
 mod settings_runs;
 #[cfg(test)]
 mod tests;
-mod texts;
 pub mod top;
 
 pub use calling::send;

@@ -1,9 +1,9 @@
 //! The command `send`, which reads its pages from a file.
 
 ghost use Rattle.std.specs.Prelude.{◌≡◌};
-ghost use Rattle.station.specs.SendRows.{ComesWithout, SendRow};
+ghost use Rattle.station.specs.SendRows.{SendRow, pages_outcome};
 
-use crate::files::{Unread, read_file};
+use crate::files::read_file;
 use crate::outcomes::Outcome;
 use calling::sending_pages::send;
 use endings::statuses::Status;
@@ -28,8 +28,7 @@ pub(crate) fn run_send<W: Wire, F: Shelf, O: Sink>(
 {
     let bytes = match read_file(alloc, shelf, pages) {
         Ok(bytes) => bytes,
-        Err(Unread::Fault) => return Outcome::Ended(Status::FileFault),
-        Err(Unread::Memory) => return Outcome::Ended(Status::Memory),
+        Err(status) => return Outcome::Ended(status),
     };
     match Pages::read(alloc, &bytes) {
         Ok(pages) => Outcome::Ended(send(wire, address, &pages, out)),
@@ -39,7 +38,7 @@ pub(crate) fn run_send<W: Wire, F: Shelf, O: Sink>(
 
 /// What a command comes to whose pages file is refused.
 fn without_pages(fault: PagesFault) -> Outcome
-    ensures { ComesWithout fault result }
+    ensures { result ≡ pages_outcome fault }
 {
     match fault {
         PagesFault::Memory => Outcome::Ended(Status::Memory),

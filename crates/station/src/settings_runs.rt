@@ -3,11 +3,11 @@
 ghost use Rattle.std.specs.Prelude.{◌≡◌, []};
 ghost use Rattle.receiver.specs.Listeners.{StandsFor as HasHeard};
 ghost use Rattle.listening.specs.PageLines.{group_lines};
-ghost use Rattle.station.specs.StationRows.{ComesTo, StationRow, TrialRow, TriesFile};
+ghost use Rattle.station.specs.StationRows.{StationRow, TrialRow, TriesFile};
 
 use crate::capcodes::Capcodes;
 use crate::commands::StationLine;
-use crate::opening::{Unopened, read_settings};
+use crate::files::read_settings;
 use crate::outcomes::Outcome;
 use endings::statuses::Status;
 use listening::playing::group_of;
@@ -20,17 +20,6 @@ use wires::shelf::Shelf;
 use wires::sink::Sink;
 use wires::source::Source;
 use wires::wire::Wire;
-
-/// What a command without settings comes to.
-fn without_settings(why: Unopened) -> Outcome
-    ensures { ComesTo why result }
-{
-    match why {
-        Unopened::Fault => Outcome::Ended(Status::FileFault),
-        Unopened::Memory => Outcome::Ended(Status::Memory),
-        Unopened::Refused(fault) => Outcome::Refused(fault),
-    }
-}
 
 /// Runs `station`.
 pub(crate) fn run_station<W: Wire, F: Shelf, O: Sink>(
@@ -46,7 +35,7 @@ pub(crate) fn run_station<W: Wire, F: Shelf, O: Sink>(
 {
     let settings = match read_settings(alloc, shelf, line.settings) {
         Ok(settings) => settings,
-        Err(why) => return without_settings(why),
+        Err(outcome) => return outcome,
     };
     let Ok(mut station) = Station::new(alloc, settings) else {
         return Outcome::Ended(Status::Memory);
@@ -68,7 +57,7 @@ pub(crate) fn run_trial<F: Shelf, I: Source, O: Sink>(
 {
     let settings = match read_settings(alloc, shelf, settings) {
         Ok(settings) => settings,
-        Err(why) => return without_settings(why),
+        Err(outcome) => return outcome,
     };
     let Ok(mut group) = group_of(alloc, capcodes.as_slice()) else {
         return Outcome::Ended(Status::Memory);

@@ -10,7 +10,7 @@ use Rattle.subscribers.specs.declared.faults.SettingsFault.TheVariants.{Long, No
 use Rattle.subscribers.specs.Entries.{ids_of}
 use Rattle.subscribers.specs.Form.{Form}
 use Rattle.subscribers.specs.Parts.{Ids, Parts}
-use Rattle.subscribers.specs.Settings.{most_bytes, most_entries, is_password_or_none, cells_of, parts_of, with_cells, settings_of_form, settings_of_tree, of_tree, tree_of, settings_of, IsOrMemory}
+use Rattle.subscribers.specs.Settings.{most_settings_bytes, most_entries, is_password_or_none, cells_in_range, parts_of, with_cells, settings_of_form, settings_of_tree, of_tree, tree_of, settings_of, IsOrMemory}
 
 -- A test that is decided.
 above : (a b : ℕ) → a < b → nat_lt a b ≡ true
@@ -31,17 +31,17 @@ password_true false x y h = absurd (cc)
 module _ (form : Form) where
   pub refused_password : (fault : SettingsFault) → Err fault ≡ cond (is_password_or_none form.password) (Ok form.password) (Err Password) → Err fault ≡ settings_of_form form
   unfolding settings_of_form
-  refused_password fault h = no_password (is_password_or_none form.password) form.password (with_cells form (cells_of form.cells)) fault h
+  refused_password fault h = no_password (is_password_or_none form.password) form.password (with_cells form (cells_in_range form.cells)) fault h
 
-  pub refused_cells : is_password_or_none form.password ≡ true → None ≡ cells_of form.cells → Err Cells ≡ settings_of_form form
+  pub refused_cells : is_password_or_none form.password ≡ true → None ≡ cells_in_range form.cells → Err Cells ≡ settings_of_form form
   unfolding settings_of_form
   refused_cells p c = rw (p, ← c)
 
-  pub refused_many : (n : ℕ) → is_password_or_none form.password ≡ true → Some n ≡ cells_of form.cells → most_entries < length form.entries → Err TooMany ≡ settings_of_form form
+  pub refused_many : (n : ℕ) → is_password_or_none form.password ≡ true → Some n ≡ cells_in_range form.cells → most_entries < length form.entries → Err TooMany ≡ settings_of_form form
   unfolding settings_of_form
   refused_many n p c many = rw (p, ← c, above most_entries (length form.entries) many)
 
-  pub from_ids : (n : ℕ) → is_password_or_none form.password ≡ true → Some n ≡ cells_of form.cells → length form.entries ≤ most_entries → parts_of n form.password (ids_of form.entries) ≡ settings_of_form form
+  pub from_ids : (n : ℕ) → is_password_or_none form.password ≡ true → Some n ≡ cells_in_range form.cells → length form.entries ≤ most_entries → parts_of n form.password (ids_of form.entries) ≡ settings_of_form form
   unfolding settings_of_form
   from_ids n p c few = rw (p, ← c, not_above most_entries (length form.entries) few)
 
@@ -65,14 +65,14 @@ no_tree bytes h = no_tree_by (is_utf8 bytes) (parse_document bytes) (λ u. h (Is
 
 -- The answer for the bytes.
 module _ (bytes : List ℕ) where
-  pub settings_of-long : most_bytes < length bytes → Err Long ≡ settings_of bytes
+  pub settings_of-long : most_settings_bytes < length bytes → Err Long ≡ settings_of bytes
   unfolding settings_of
-  settings_of-long h = rw (above most_bytes (length bytes) h)
+  settings_of-long h = rw (above most_settings_bytes (length bytes) h)
 
-  pub settings_of-no_tree : length bytes ≤ most_bytes → tree_of bytes ≡ None → Err NotToml ≡ settings_of bytes
+  pub settings_of-no_tree : length bytes ≤ most_settings_bytes → tree_of bytes ≡ None → Err NotToml ≡ settings_of bytes
   unfolding settings_of
-  settings_of-no_tree h t = rw (not_above most_bytes (length bytes) h) (sym (ap of_tree t))
+  settings_of-no_tree h t = rw (not_above most_settings_bytes (length bytes) h) (sym (ap of_tree t))
 
-  pub settings_of-tree : (tree : Members) → length bytes ≤ most_bytes → tree_of bytes ≡ Some tree → settings_of_tree tree ≡ settings_of bytes
+  pub settings_of-tree : (tree : Members) → length bytes ≤ most_settings_bytes → tree_of bytes ≡ Some tree → settings_of_tree tree ≡ settings_of bytes
   unfolding settings_of
-  settings_of-tree tree h t = rw (not_above most_bytes (length bytes) h) (sym (ap of_tree t))
+  settings_of-tree tree h t = rw (not_above most_settings_bytes (length bytes) h) (sym (ap of_tree t))

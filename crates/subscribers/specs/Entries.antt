@@ -9,7 +9,7 @@ use Rattle.codeword.specs.declared.functions.Function.TheVariants.{Numeric, Tone
 use Rattle.subscribers.specs.declared.faults.SettingsFault.{SettingsFault}
 use Rattle.subscribers.specs.declared.faults.SettingsFault.TheVariants.{Id, IdTwice, Capcode, Class}
 use Rattle.subscribers.specs.declared.subscriber.Subscriber.{Subscriber}
-use Rattle.subscribers.specs.Form.{Entry}
+use Rattle.subscribers.specs.Form.{SubscriberEntry}
 use Rattle.subscribers.specs.Parts.{Ids}
 
 -- A character from one to another.
@@ -29,8 +29,8 @@ capcode_of (pos n) = if is_usable n then Some n else None
 capcode_of (negsuc n) = None
 
 -- The function that a class names.
-abbrev pub function_of : List ℕ → Option Function
-function_of class =
+abbrev pub function_of_class : List ℕ → Option Function
+function_of_class class =
     if bytes_eq class (codes "numeric") then Some Numeric
     else if bytes_eq class (codes "tone1") then Some Tone1
     else if bytes_eq class (codes "tone2") then Some Tone2
@@ -46,16 +46,16 @@ abbrev pub with_capcode : ℕ → Option ℕ → Option Function → Result Subs
 with_capcode n None function = Err (Capcode n)
 with_capcode n (Some capcode) function = with_class n capcode function
 
-unfoldable pub subscriber_of : ℕ → Bool → Entry → Result Subscriber SettingsFault
+unfoldable pub subscriber_of : ℕ → Bool → SubscriberEntry → Result Subscriber SettingsFault
 subscriber_of n twice e =
     if not (is_id e.id) then Err (Id n)
     else if twice then Err (IdTwice n)
-    else with_capcode n (capcode_of e.capcode) (function_of e.class)
+    else with_capcode n (capcode_of e.capcode) (function_of_class e.class)
 
 -- Each entry of a list, with the entries before it.
-abbrev pub places : List Entry → List (List Entry × Entry)
-places [] = []
-places (e ∷ es) = ([], e) ∷ map (λ p. (e ∷ p.0, p.1)) (places es)
+abbrev pub with_earlier : List SubscriberEntry → List (List SubscriberEntry × SubscriberEntry)
+with_earlier [] = []
+with_earlier (e ∷ es) = ([], e) ∷ map (λ p. (e ∷ p.0, p.1)) (with_earlier es)
 
 -- An id with its subscriber.
 abbrev pub Listed : Type 0
@@ -66,7 +66,7 @@ listed_as id (Ok subscriber) = Ok (id, subscriber)
 listed_as id (Err fault) = Err fault
 
 -- What an entry adds to the map of ids, or its fault. Entries are counted from 1, and an id is different from every earlier one.
-abbrev pub listed : List Entry × Entry → Result Listed SettingsFault
+abbrev pub listed : List SubscriberEntry × SubscriberEntry → Result Listed SettingsFault
 listed p = listed_as p.1.id (subscriber_of (suc (length p.0)) (list_any (λ e. bytes_eq p.1.id e.id) p.0) p.1)
 
 -- All of these, or the first fault.
@@ -74,22 +74,22 @@ abbrev pub before_all : {A : Type 0} → A → Result (List A) SettingsFault →
 before_all x (Ok xs) = Ok (x ∷ xs)
 before_all x (Err fault) = Err fault
 
-abbrev pub joined : {A : Type 0} → Result A SettingsFault → Result (List A) SettingsFault → Result (List A) SettingsFault
-joined (Ok x) rest = before_all x rest
-joined (Err fault) rest = Err fault
+abbrev pub joined_results : {A : Type 0} → Result A SettingsFault → Result (List A) SettingsFault → Result (List A) SettingsFault
+joined_results (Ok x) rest = before_all x rest
+joined_results (Err fault) rest = Err fault
 
 abbrev pub all_or_first_fault : {A : Type 0} → List (Result A SettingsFault) → Result (List A) SettingsFault
 all_or_first_fault [] = Ok []
-all_or_first_fault (r ∷ rs) = joined r (all_or_first_fault rs)
+all_or_first_fault (r ∷ rs) = joined_results r (all_or_first_fault rs)
 
 -- What the entries add to the map of ids, in their order, or the fault of the first faulty entry.
-unfoldable pub listed_all : List Entry → Result (List Listed) SettingsFault
-listed_all es = all_or_first_fault (map listed (places es))
+unfoldable pub listed_all : List SubscriberEntry → Result (List Listed) SettingsFault
+listed_all es = all_or_first_fault (map listed (with_earlier es))
 
 -- The finite map of the entries, or the fault of the first faulty entry.
 abbrev pub map_of : Result (List Listed) SettingsFault → Result Ids SettingsFault
 map_of (Ok ids) = Ok (from_entries ids)
 map_of (Err fault) = Err fault
 
-abbrev pub ids_of : List Entry → Result Ids SettingsFault
+abbrev pub ids_of : List SubscriberEntry → Result Ids SettingsFault
 ids_of es = map_of (listed_all es)

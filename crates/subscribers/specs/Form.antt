@@ -5,7 +5,7 @@ use Rattle.std.specs.Str.{bytes_eq}
 use Rattle.toml.specs.Data.{Data, Items, no_items, item, Members, no_members, member, get_member, as_str, as_integer, as_array, as_table}
 
 -- An entry: one table of the array `subscriber`.
-pub record Entry : Type 0 where
+pub record SubscriberEntry : Type 0 where
   pub id : List ℕ
   pub capcode : ℤ
   pub class : List ℕ
@@ -14,7 +14,7 @@ pub record Entry : Type 0 where
 pub record Form : Type 0 where
   pub cells : ℤ
   pub password : Option (List ℕ)
-  pub entries : List Entry
+  pub entries : List SubscriberEntry
 
 -- The keys of a file, and those of an entry.
 abbrev pub file_keys : List (List ℕ)
@@ -49,7 +49,7 @@ abbrev ◌>>=◌ : {A B : Type 0} → Option A → (A → Option B) → Option B
 o >>= f = option_and_then f o
 
 -- A table with exactly the keys of an entry: two strings and an integer.
-unfoldable pub entry_in : Members → Option Entry
+unfoldable pub entry_in : Members → Option SubscriberEntry
 entry_in ms =
     if has_only entry_keys ms then
     required as_str (codes "id") ms >>= (λ i.
@@ -58,15 +58,15 @@ entry_in ms =
     Some (record { id = i; capcode = c; class = s }))))
     else None
 
-abbrev pub entry_of : Data → Option Entry
-entry_of d = as_table d >>= entry_in
+abbrev pub subscriber_entry_of : Data → Option SubscriberEntry
+subscriber_entry_of d = as_table d >>= entry_in
 
 -- All items as entries, in their order; None where one isn't of the form.
-abbrev pub entries_of : Items → Option (List Entry)
+abbrev pub entries_of : Items → Option (List SubscriberEntry)
 entries_of no_items = Some []
-entries_of (item d ds) = entry_of d >>= (λ e. option_map (λ es. e ∷ es) (entries_of ds))
+entries_of (item d ds) = subscriber_entry_of d >>= (λ e. option_map (λ es. e ∷ es) (entries_of ds))
 
-abbrev pub array_of : Data → Option (List Entry)
+abbrev pub array_of : Data → Option (List SubscriberEntry)
 array_of d = as_array d >>= entries_of
 
 -- A file: no key but the three, `cells` an integer, `password` a string where it stands, `subscriber` an array of entries where

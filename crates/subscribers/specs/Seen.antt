@@ -2,14 +2,14 @@
 use Rattle.std.specs.Prelude.{List, map, option_map}
 use Rattle.subscribers.specs.declared.document.Entry.{Entry as EntryRead}
 use Rattle.subscribers.specs.declared.document.Document.{Document}
-use Rattle.subscribers.specs.Form.{Entry, Form}
+use Rattle.subscribers.specs.Form.{SubscriberEntry, Form}
 
 -- An entry that was read.
-abbrev pub seen_entry : EntryRead → Entry
+abbrev pub seen_entry : EntryRead → SubscriberEntry
 seen_entry e = record { id = e.id.now; capcode = e.capcode; class = e.class.now }
 
 -- Entries that were read.
-abbrev pub seen_entries : List EntryRead → List Entry
+abbrev pub seen_entries : List EntryRead → List SubscriberEntry
 seen_entries es = map seen_entry es
 
 -- A document that was read.

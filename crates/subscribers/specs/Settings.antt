@@ -11,8 +11,8 @@ use Rattle.subscribers.specs.Entries.{is_between, ids_of}
 use Rattle.subscribers.specs.Parts.{Ids, Parts}
 
 -- The limits: bytes of a file, cells, entries.
-abbrev pub most_bytes : ℕ
-most_bytes = 1048576
+abbrev pub most_settings_bytes : ℕ
+most_settings_bytes = 1048576
 
 abbrev pub most_cells : ℕ
 most_cells = 65536
@@ -29,9 +29,9 @@ is_password_or_none None = true
 is_password_or_none (Some text) = is_password text
 
 -- A number of cells, where it is in its range.
-abbrev pub cells_of : ℤ → Option ℕ
-cells_of (pos n) = if is_between 1 most_cells n then Some n else None
-cells_of (negsuc n) = None
+abbrev pub cells_in_range : ℤ → Option ℕ
+cells_in_range (pos n) = if is_between 1 most_cells n then Some n else None
+cells_in_range (negsuc n) = None
 
 -- The settings with these cells, this password and these ids.
 abbrev pub parts_of : ℕ → Option (List ℕ) → Result Ids SettingsFault → Result Parts SettingsFault
@@ -45,7 +45,7 @@ with_cells form (Some cells) =
     if nat_lt most_entries (length form.entries) then Err TooMany else parts_of cells form.password (ids_of form.entries)
 
 unfoldable pub settings_of_form : Form → Result Parts SettingsFault
-settings_of_form form = if is_password_or_none form.password then with_cells form (cells_of form.cells) else Err Password
+settings_of_form form = if is_password_or_none form.password then with_cells form (cells_in_range form.cells) else Err Password
 
 -- What a document gives.
 abbrev pub of_form : Option Form → Result Parts SettingsFault
@@ -65,7 +65,7 @@ of_tree (Some tree) = settings_of_tree tree
 
 -- What the bytes of a file give.
 unfoldable pub settings_of : List ℕ → Result Parts SettingsFault
-settings_of bytes = if nat_lt most_bytes (length bytes) then Err Long else of_tree (tree_of bytes)
+settings_of bytes = if nat_lt most_settings_bytes (length bytes) then Err Long else of_tree (tree_of bytes)
 
 -- The answer is the defined one, or there was no memory.
 abbrev pub IsOrMemory : {A : Type 0} → Result A SettingsFault → Result A SettingsFault → Type 0

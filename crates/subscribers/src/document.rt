@@ -5,7 +5,7 @@ ghost use Rattle.std.specs.List.{list_any};
 ghost use Rattle.std.specs.Str.{bytes_eq};
 ghost use Rattle.toml.specs.Data.{as_str, as_integer, get_member};
 ghost use Rattle.toml.specs.View.{view, items_view, table_view};
-ghost use Rattle.subscribers.specs.Form.{file_keys, entry_keys, has_only, required, optional, array_of, entry_in, entry_of, entries_of, form_of};
+ghost use Rattle.subscribers.specs.Form.{file_keys, entry_keys, has_only, required, optional, array_of, entry_in, subscriber_entry_of, entries_of, form_of};
 ghost use Rattle.subscribers.specs.Seen.{seen_entry, seen_entries, seen_document};
 
 use crate::faults::SettingsFault;
@@ -111,7 +111,7 @@ fn entry_in(table: &Table) -> Option<Entry<'_>>
 
 /// An entry. None where the value is no table, or one that isn't an entry.
 fn entry_from(value: &Value) -> Option<Entry<'_>>
-    ensures { option_map seen_entry result ≡ entry_of (view value.now) }
+    ensures { option_map seen_entry result ≡ subscriber_entry_of (view value.now) }
 {
     match value.as_table() {
         Some(table) => entry_in(table),

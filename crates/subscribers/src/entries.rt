@@ -2,7 +2,7 @@
 
 ghost use Rattle.std.specs.Prelude.{◌≡◌, ◌≤◌, length};
 ghost use Rattle.std.specs.List.{list_all};
-ghost use Rattle.subscribers.specs.Entries.{is_between, is_id, capcode_of, function_of, subscriber_of, ids_of};
+ghost use Rattle.subscribers.specs.Entries.{is_between, is_id, capcode_of, function_of_class, subscriber_of, ids_of};
 ghost use Rattle.subscribers.specs.Seen.{seen_entry, seen_entries};
 ghost use Rattle.subscribers.specs.Settings.{most_entries, IsOrMemory};
 
@@ -11,10 +11,8 @@ use crate::document::Entry;
 use crate::faults::SettingsFault;
 use crate::subscriber::Subscriber;
 use codeword::{Capcode, Function};
+use entry_line::characters::MOST_DIGITS;
 use std::alloc::Global;
-
-/// An id has at most this many digits.
-const MOST_DIGITS: usize = 10;
 
 /// Whether all bytes are digits.
 fn are_digits(text: &[u8]) -> bool
@@ -42,7 +40,7 @@ fn capcode_from(n: i64) -> Option<Capcode>
 
 /// The function that a class names. None where it names none.
 fn function_from(class: &str) -> Option<Function>
-    ensures { result ≡ function_of class.now }
+    ensures { result ≡ function_of_class class.now }
 {
     match class {
         "numeric" => Some(Function::Numeric),

@@ -3,7 +3,7 @@
 ghost use Rattle.std.specs.Prelude.{◌≡◌, ◌≤◌, ◌⊎◌, Some, None, Ok, Err, IfOk, IfErr, option_map, if◌then◌else◌};
 ghost use Rattle.toml.specs.View.{table_view};
 ghost use Rattle.subscribers.specs.Seen.{seen_document};
-ghost use Rattle.subscribers.specs.Settings.{most_cells, is_password, is_password_or_none, cells_of, settings_of_form, settings_of_tree, tree_of, settings_of, IsOrMemory};
+ghost use Rattle.subscribers.specs.Settings.{most_cells, is_password, is_password_or_none, cells_in_range, settings_of_form, settings_of_tree, tree_of, settings_of, IsOrMemory};
 ghost use Rattle.std.specs.List.{list_all};
 ghost use Rattle.subscribers.specs.Entries.{is_between};
 
@@ -12,6 +12,7 @@ use crate::document::{Document, document_from};
 use crate::entries::directory_from;
 use crate::faults::SettingsFault;
 use crate::subscriber::Subscriber;
+use entry_line::characters::PASSWORD_SIZE;
 use std::alloc::Global;
 use std::marker::Model;
 use toml::Table;
@@ -24,9 +25,6 @@ pub const MOST_CELLS: u32 = 65_536;
 
 /// There are at most this many subscribers.
 pub const MOST_SUBSCRIBERS: usize = 10_000;
-
-/// The characters of a password.
-pub const PASSWORD_SIZE: usize = 6;
 
 /// The settings that a file gives.
 #[derive(Drop)]
@@ -143,7 +141,7 @@ fn settings_from(alloc: Global, document: &Document<'_>) -> Result<Settings, Set
 
 /// The number of cells. None where it is out of its range.
 fn cells_from(n: i64) -> Option<u32>
-    ensures { result ≡ cells_of n }
+    ensures { result ≡ cells_in_range n }
 {
     match u32::try_from(n) {
         Ok(n) => {

@@ -3,17 +3,18 @@ use Rattle.std.proofs.Common.{◌≡◌, ◌≢◌, ℕ, suc, zero, ◌<◌, ◌
 use Rattle.std.specs.List.{AllByRecursion}
 use Rattle.tap_block.specs.declared.ends.End.{End}
 use Rattle.tap_block.specs.declared.ends.End.TheVariants.{Etx, Etb, Us}
-use Rattle.tap_block.specs.Chars.{stx, etx, eot, cr, etb, us, end_char}
-use Rattle.tap_block.specs.Reading.{Mode, BeforeLogon, AfterLogon, Piece, line, skipped, lone_eot, bye, dropped, block, text, IsBodyChar, IsBody, IsTrailer, IsPieceBefore, Reads, mode_after}
+use Rattle.entry_line.specs.Chars.{cr}
+use Rattle.tap_block.specs.Chars.{stx, etx, eot, etb, us, end_char}
+use Rattle.tap_block.specs.Reading.{Mode, BeforeLogon, AfterLogon, InputPiece, line, skipped, lone_eot, bye, dropped, block, piece_text, IsBodyChar, IsBody, IsTrailer, IsPieceBefore, Reads, mode_after}
 use Rattle.tap_block.proofs.First.{first_piece, line_cut, longer, four, three, two, trailer_cut, after_trailer, body_cut, eot_cut, after_line, no_piece, all_push, by_test}
 
 -- what is found at the front, and how it goes on behind it
-abbrev pub with_front : List ℕ → (Piece → List ℕ → List Piece × List ℕ) → Option (Piece × List ℕ) → List Piece × List ℕ
+abbrev pub with_front : List ℕ → (InputPiece → List ℕ → List InputPiece × List ℕ) → Option (InputPiece × List ℕ) → List InputPiece × List ℕ
 with_front x onward None = ([], x)
 with_front x onward (Some (p, next)) = (p ∷ (onward p next).0, (onward p next).1)
 
 -- the pieces of a list, at most n of them, and the rest
-abbrev pub cut : ℕ → Option (List ℕ) → Mode → List ℕ → List Piece × List ℕ
+abbrev pub cut : ℕ → Option (List ℕ) → Mode → List ℕ → List InputPiece × List ℕ
 cut zero password mode x = ([], x)
 cut (suc n) password mode x = with_front x (λ p next. cut n password (mode_after password p mode) next) (first_piece mode x)
 
@@ -28,9 +29,9 @@ TrailerCut x None = Unit {0}
 TrailerCut x (Some (t, next)) = (x ≡ t ++ next) × IsTrailer t
 
 -- what a piece at the front is
-abbrev pub Cut : Mode → List ℕ → Option (Piece × List ℕ) → Type 0
+abbrev pub Cut : Mode → List ℕ → Option (InputPiece × List ℕ) → Type 0
 Cut mode x None = Unit {0}
-Cut mode x (Some (p, next)) = (x ≡ text p ++ next) × IsPieceBefore mode p next
+Cut mode x (Some (p, next)) = (x ≡ piece_text p ++ next) × IsPieceBefore mode p next
 
 -- one character more before the line
 longer_sound : (c : ℕ) (x : List ℕ) (o : Option (List ℕ × List ℕ)) → c ≢ cr → LineCut x o → LineCut (c ∷ x) (longer c o)
@@ -77,7 +78,7 @@ after_sound b x c e (Some (t, next)) body p h =
 body_sound : (b x : List ℕ) → IsBody b → Cut AfterLogon ((stx ∷ b) ++ x) (body_cut b x)
 body_sound b [] body = tt
 body_sound b (c ∷ x) body =
-    let P : Option (Piece × List ℕ) → Type 0 = λ o. Cut AfterLogon ((stx ∷ b) ++ c ∷ x) o in
+    let P : Option (InputPiece × List ℕ) → Type 0 = λ o. Cut AfterLogon ((stx ∷ b) ++ c ∷ x) o in
     by_test P c stx _ _ (λ e. (refl, (body, e)))
     (λ n2. by_test P c etx _ _ (λ e. after_sound b x c Etx (trailer_cut x) body e (trailer_sound x))
     (λ n3. by_test P c etb _ _ (λ e. after_sound b x c Etb (trailer_cut x) body e (trailer_sound x))
@@ -106,7 +107,7 @@ sound AfterLogon (c ∷ x) = by_test (Cut AfterLogon (c ∷ x)) c stx _ _
     (λ n4. (refl, (n2, n4))))
 
 -- a piece has a character
-text_some : (p : Piece) → 0 < length (text p)
+text_some : (p : InputPiece) → 0 < length (piece_text p)
 text_some (line l) = simp length-append (omega arith)
 text_some (skipped c) = omega arith
 text_some lone_eot = omega arith
@@ -115,8 +116,8 @@ text_some (dropped b) = omega arith
 text_some (block b e t) = omega arith
 
 -- what is behind a piece is shorter
-shorter : (p : Piece) (x next : List ℕ) (n : ℕ) → x ≡ text p ++ next → length x ≤ suc n → length next ≤ n
-shorter p x next n e h = let k = ap length e ∙ length-append (text p) next in let m = text_some p in omega arith
+shorter : (p : InputPiece) (x next : List ℕ) (n : ℕ) → x ≡ piece_text p ++ next → length x ≤ suc n → length next ≤ n
+shorter p x next n e h = let k = ap length e ∙ length-append (piece_text p) next in let m = text_some p in omega arith
 
 -- enough pieces are a reading
 pub cut_reads : (n : ℕ) (password : Option (List ℕ)) (mode : Mode) (x : List ℕ) → length x ≤ n
@@ -130,7 +131,7 @@ cut_reads zero password mode x h = (refl, no_piece mode x (none_at mode x h))
 cut_reads (suc n) password mode x h =
     found_reads (first_piece mode x) refl (sound mode x) (λ m y k. cut_reads n password m y k)
   where
-    found_reads : (o : Option (Piece × List ℕ)) → first_piece mode x ≡ o → Cut mode x o
+    found_reads : (o : Option (InputPiece × List ℕ)) → first_piece mode x ≡ o → Cut mode x o
         → ((m : Mode) (y : List ℕ) → length y ≤ n → Reads password m (cut n password m y).0 (cut n password m y).1 y)
         → (let r = with_front x (λ p next. cut n password (mode_after password p mode) next) o in Reads password mode r.0 r.1 x)
     found_reads None e f again = (refl, no_piece mode x e)

@@ -4,9 +4,10 @@ use Rattle.std.specs.List.{AllByRecursion}
 use Rattle.std.proofs.lemmas.Bool.Decides.{eqb_tells, nat_tests}
 use Rattle.tap_block.specs.declared.ends.End.{End}
 use Rattle.tap_block.specs.declared.ends.End.TheVariants.{Etx, Etb, Us}
-use Rattle.tap_block.specs.Chars.{stx, etx, eot, cr, etb, us, end_char}
+use Rattle.entry_line.specs.Chars.{cr}
+use Rattle.tap_block.specs.Chars.{stx, etx, eot, etb, us, end_char}
 pub use Rattle.tap_block.specs.Fields.{longer, line_cut}
-use Rattle.tap_block.specs.Reading.{Mode, BeforeLogon, AfterLogon, Piece, line, skipped, lone_eot, bye, dropped, block, text, IsBody, IsTrailer, Begins, IsPieceBefore, HasNoPiece}
+use Rattle.tap_block.specs.Reading.{Mode, BeforeLogon, AfterLogon, InputPiece, line, skipped, lone_eot, bye, dropped, block, piece_text, IsBody, IsTrailer, FirstIs, IsPieceBefore, HasNoPiece}
 
 -- the fourth character of a trailer
 abbrev pub four : ℕ → ℕ → ℕ → List ℕ → Option (List ℕ × List ℕ)
@@ -29,12 +30,12 @@ trailer_cut [] = None
 trailer_cut (a ∷ x) = cond (a == cr) (Some (a ∷ [], x)) (two a x)
 
 -- the block that a trailer ends
-abbrev pub after_trailer : List ℕ → End → Option (List ℕ × List ℕ) → Option (Piece × List ℕ)
+abbrev pub after_trailer : List ℕ → End → Option (List ℕ × List ℕ) → Option (InputPiece × List ℕ)
 after_trailer b e None = None
 after_trailer b e (Some (t, x)) = Some (block b e t, x)
 
 -- behind an STX: the body so far, and what is left
-abbrev pub body_cut : List ℕ → List ℕ → Option (Piece × List ℕ)
+abbrev pub body_cut : List ℕ → List ℕ → Option (InputPiece × List ℕ)
 body_cut b [] = None
 body_cut b (c ∷ x) =
     cond (c == stx) (Some (dropped b, c ∷ x))
@@ -44,17 +45,17 @@ body_cut b (c ∷ x) =
     (body_cut (b ++ c ∷ []) x))))
 
 -- behind an EOT
-abbrev pub eot_cut : List ℕ → Option (Piece × List ℕ)
+abbrev pub eot_cut : List ℕ → Option (InputPiece × List ℕ)
 eot_cut [] = None
 eot_cut (c ∷ x) = cond (c == cr) (Some (bye, x)) (Some (lone_eot, c ∷ x))
 
 -- the piece of a line
-abbrev pub after_line : Option (List ℕ × List ℕ) → Option (Piece × List ℕ)
+abbrev pub after_line : Option (List ℕ × List ℕ) → Option (InputPiece × List ℕ)
 after_line None = None
 after_line (Some (l, x)) = Some (line l, x)
 
 -- the first piece, and what is behind it
-abbrev pub first_piece : Mode → List ℕ → Option (Piece × List ℕ)
+abbrev pub first_piece : Mode → List ℕ → Option (InputPiece × List ℕ)
 first_piece BeforeLogon x = after_line (line_cut x)
 first_piece AfterLogon [] = None
 first_piece AfterLogon (c ∷ x) = cond (c == stx) (body_cut [] x) (cond (c == eot) (eot_cut x) (Some (skipped c, x)))
@@ -109,17 +110,17 @@ end_found b t next Etb h = rw (trailer_found t next h) refl
 end_found b t next Us h = rw (trailer_found t next h) refl
 
 -- a dropped body is found
-dropped_found : (b next : List ℕ) → Begins (λ c. c ≡ stx) next → body_cut b next ≡ Some (dropped b, next)
+dropped_found : (b next : List ℕ) → FirstIs (λ c. c ≡ stx) next → body_cut b next ≡ Some (dropped b, next)
 dropped_found b [] h = elim h [ ]
 dropped_found b (c ∷ x) h = rw (equal c stx h) refl
 
 -- an EOT without CR is found
-lone_found : (next : List ℕ) → Begins (λ c. c ≢ cr) next → eot_cut next ≡ Some (lone_eot, next)
+lone_found : (next : List ℕ) → FirstIs (λ c. c ≢ cr) next → eot_cut next ≡ Some (lone_eot, next)
 lone_found [] h = elim h [ ]
 lone_found (c ∷ x) h = rw (not_equal c cr h) refl
 
 -- what may stand at the front is what is found there
-pub found : (mode : Mode) (p : Piece) (next : List ℕ) → IsPieceBefore mode p next → first_piece mode (text p ++ next) ≡ Some (p, next)
+pub found : (mode : Mode) (p : InputPiece) (next : List ℕ) → IsPieceBefore mode p next → first_piece mode (piece_text p ++ next) ≡ Some (p, next)
 found BeforeLogon (line l) next h = rw append_assoc (rw (line_found l next h) refl)
 found AfterLogon (skipped c) next h = rw (not_equal c stx h.0, not_equal c eot h.1) refl
 found AfterLogon lone_eot next h = lone_found next h

@@ -5,32 +5,11 @@ use Rattle.std.proofs.lemmas.List.{take-append-le, take_all, length-take-le}
 use Rattle.std.proofs.lemmas.List.Sums.{sum_by-append}
 use Rattle.std.proofs.lemmas.Bool.{cases_lt}
 use Rattle.tap_block.specs.Chars.{sum_of}
-use Rattle.tap_block.specs.Reading.{is_password, line_item}
+use Rattle.tap_block.specs.Reading.{is_password_word, line_item}
 use Rattle.tap_block.specs.Brief.{IsKept}
-use Rattle.tap_block.specs.Step.{push_within, count_within}
+use Rattle.entry_line.specs.Kept.{push_within, count_within}
 use Rattle.tap_block.proofs.First.{not_equal}
-
--- fronts and counts that stop at a limit
-pub take_push : (n : ℕ) (b : List ℕ) (c : ℕ) → push_within n (take n b) c ≡ take n (b ++ c ∷ [])
-take_push n b c = elim (cases_lt (length b) n) [ inl h ↦ short n b c h | inr h ↦ long n b c h ]
-  where
-    short : (n : ℕ) (b : List ℕ) (c : ℕ) → length b < n → push_within n (take n b) c ≡ take n (b ++ c ∷ [])
-    short n b c h =
-        let e : take n b ≡ b = take_all n b (omega arith) in
-        let f : take n (b ++ c ∷ []) ≡ b ++ c ∷ [] = take_all n (b ++ c ∷ []) (simp length-append (omega arith)) in
-        let t : nat_lt (length b) n ≡ true = grind (arith, nat_tests) in
-        rw (e, f, t) refl
-
-    long : (n : ℕ) (b : List ℕ) (c : ℕ) → n ≤ length b → push_within n (take n b) c ≡ take n (b ++ c ∷ [])
-    long n b c h =
-        let e : take n (b ++ c ∷ []) ≡ take n b = take-append-le n b (c ∷ []) h in
-        let k : length (take n b) ≡ n = length-take-le n b h in
-        let t : nat_lt n n ≡ false = grind (arith, nat_tests) in
-        rw (e, k, t) refl
-
--- a length that stops at a limit, with one character more
-pub count_push : (n k : ℕ) → count_within n (min k n) ≡ min (k + 1) n
-count_push n k = grind (arith, nat_tests)
+use Rattle.entry_line.proofs.Bounds.{take_push, count_push}
 
 -- the sum of one character more
 pub sum_push : (x : List ℕ) (c : ℕ) → (sum_of x + c) % 4096 ≡ sum_of (x ++ c ∷ [])
@@ -46,12 +25,12 @@ kept_push kept size b c h =
     (rw h.0 (take_push 250 b c), rw h.1 (count_push 251 (length b) ∙ ap (λ k. min k 251) (sym (length-append b (c ∷ [])))))
 
 -- more than six characters are no password
-pub word_long : (password : Option (List ℕ)) (word : List ℕ) → 7 ≤ length word → is_password password word ≡ false
+pub word_long : (password : Option (List ℕ)) (word : List ℕ) → 7 ≤ length word → is_password_word password word ≡ false
 word_long None word h = rw (not_equal (length word) 0 (omega arith), not_equal (length word) 6 (omega arith)) refl
 word_long (Some p) word h = rw (not_equal (length word) 6 (omega arith)) refl
 
 -- a word is the password where its first seven characters are
-pub word_short : (password : Option (List ℕ)) (word : List ℕ) → is_password password word ≡ is_password password (take 7 word)
+pub word_short : (password : Option (List ℕ)) (word : List ℕ) → is_password_word password word ≡ is_password_word password (take 7 word)
 word_short password word = elim (cases_lt (length word) 7) [
   | inl h ↦ (let e : take 7 word ≡ word = take_all 7 word (omega arith) in rw e refl)
   | inr h ↦ (let k : 7 ≤ length (take 7 word) = omega (arith, length-take-le 7 word h) in word_long password word h ∙ sym (word_long password (take 7 word) k))

@@ -5,11 +5,14 @@ use Rattle.std.proofs.lemmas.Bool.Decides.{eqb_tells}
 use Rattle.std.proofs.lemmas.List.Elements.{filter-append, filter_map-append}
 use Rattle.tap_block.specs.declared.ends.End.{End}
 use Rattle.tap_block.specs.declared.ends.End.TheVariants.{Etx, Etb, Us}
-use Rattle.tap_block.specs.Chars.{stx, etx, eot, cr, lf, etb, us, end_char}
-use Rattle.tap_block.specs.Reading.{Mode, BeforeLogon, AfterLogon, Piece, line, skipped, lone_eot, bye, dropped, block, text, IsBody, IsTrailer, Reads, mode_at, mode_by, items_of, item_of, Entry, empty_line, logon, wrong_line, a_block, a_bye, line_item, without_lf, is_right, is_logon}
-use Rattle.tap_block.specs.Brief.{Brief, in_line, between, after_eot, in_body, in_trailer, Held, IsTrailerFront, InBody, InTrailer, IsBrief, StandsFor, answer_of, BodyIs, ReadsOn}
-use Rattle.tap_block.specs.Step.{Stepped, silent, brief_by, push_within, begin_item, end_body, more_body, is_whole, end_block, step_by, step}
-use Rattle.tap_block.proofs.Fronts.{kept_push, line_short, sum_push, take_push}
+use Rattle.entry_line.specs.Chars.{lf, cr}
+use Rattle.tap_block.specs.Chars.{stx, etx, eot, etb, us, end_char}
+use Rattle.tap_block.specs.Reading.{Mode, BeforeLogon, AfterLogon, InputPiece, line, skipped, lone_eot, bye, dropped, block, piece_text, IsBody, IsTrailer, Reads, mode_at, mode_by, items_of, item_of, Entry, empty_line, logon, wrong_line, a_block, a_bye, line_item, without_lf, is_right, is_logon}
+use Rattle.tap_block.specs.Brief.{Brief, in_line, between, after_eot, in_body, in_trailer, ScannerState, IsTrailerFront, InBody, InTrailer, IsBrief, ScannerStandsFor, answer_of, BodyIs, ReadsOn}
+use Rattle.entry_line.specs.Kept.{push_within}
+use Rattle.tap_block.specs.Step.{ScannerStepped, silent, brief_by, begin_item, end_body, more_body, is_whole, end_block, step_by, scanner_step}
+use Rattle.tap_block.proofs.Fronts.{kept_push, line_short, sum_push}
+use Rattle.entry_line.proofs.Bounds.{take_push}
 use Rattle.tap_block.proofs.OneReading.{goes_on, mode_at-append}
 use Rattle.tap_block.proofs.First.{first_piece, trailer_cut, body_cut, no_piece, not_equal, equal, body_skipped, by_test, line_none, all_push}
 
@@ -50,8 +53,8 @@ none_nil BeforeLogon = refl
 none_nil AfterLogon = refl
 
 -- what is read with one character more, from the rest before it
-pub record Grown (password : Option (List ℕ)) (mode : Mode) (y : List ℕ) (stepped : Stepped) : Type 0 where
-  pub new : List Piece
+pub record Grown (password : Option (List ℕ)) (mode : Mode) (y : List ℕ) (stepped : ScannerStepped) : Type 0 where
+  pub new : List InputPiece
   pub rest : List ℕ
   pub further : Option Entry
   pub reads : Reads password mode new rest y
@@ -62,7 +65,7 @@ pub record Grown (password : Option (List ℕ)) (mode : Mode) (y : List ℕ) (st
   pub password_is : stepped.held.password ≡ password
 
 -- no further piece
-quiet : (mode : Mode) (y : List ℕ) (s : Held) → IsBrief mode y s.kept s.brief → Grown s.password mode y (silent s)
+quiet : (mode : Mode) (y : List ℕ) (s : ScannerState) → IsBrief mode y s.kept s.brief → Grown s.password mode y (silent s)
 quiet mode y s h = record {
   new = [];
   rest = y;
@@ -76,7 +79,7 @@ quiet mode y s h = record {
 }
 
 -- the step between items
-begun : (s : Held) (c : ℕ) → Grown s.password AfterLogon (c ∷ []) (silent (begin_item s c))
+begun : (s : ScannerState) (c : ℕ) → Grown s.password AfterLogon (c ∷ []) (silent (begin_item s c))
 begun s c =
     by_test (λ h. Grown s.password AfterLogon (c ∷ []) (silent h)) c stx _ _
     (λ e. quiet AfterLogon (c ∷ []) (record s { kept = []; brief = in_body 0 2 })
@@ -112,7 +115,7 @@ whole_four (a ∷ b ∷ d ∷ []) c h e = (h.0.0, h.0.1.0, h.0.1.1.0)
 whole_four (a ∷ b ∷ d ∷ f ∷ t) c h e = absurd (omega (arith, h.1))
 
 -- the step in a trailer
-block_ends : (s : Held) (rest b : List ℕ) (size total c : ℕ) (e : End) (t : List ℕ) → InTrailer rest s.kept size total e t b → IsTrailer (t ++ c ∷ [])
+block_ends : (s : ScannerState) (rest b : List ℕ) (size total c : ℕ) (e : End) (t : List ℕ) → InTrailer rest s.kept size total e t b → IsTrailer (t ++ c ∷ [])
     → Grown s.password AfterLogon (rest ++ c ∷ []) (end_block s size total e (t ++ c ∷ []))
 block_ends s rest b size total c e t h w = record {
   new = block b e (t ++ c ∷ []) ∷ [];
@@ -125,16 +128,16 @@ block_ends s rest b size total c e t h w = record {
   body_is = h.front.0;
   password_is = refl;
 } where
-  ends : rest ++ c ∷ [] ≡ text (block b e (t ++ c ∷ [])) ++ []
+  ends : rest ++ c ∷ [] ≡ piece_text (block b e (t ++ c ∷ [])) ++ []
   ends = ap (λ z. z ++ c ∷ []) h.form ∙ append_assoc (stx ∷ b) (end_char e ∷ t) (c ∷ []) ∙ sym (append-nil _)
 
 -- any step in a trailer
-trailer_step : (s : Held) (rest b : List ℕ) (size total c : ℕ) (e : End) (t : List ℕ) → InTrailer rest s.kept size total e t b
+trailer_step : (s : ScannerState) (rest b : List ℕ) (size total c : ℕ) (e : End) (t : List ℕ) → InTrailer rest s.kept size total e t b
     → Grown s.password AfterLogon (rest ++ c ∷ []) (step_by s (in_trailer size total e t) c)
 trailer_step s rest b size total c e t h =
     elim (eqb_tells c cr) [
       | inl p ↦ rw p.0 (block_ends s rest b size total c e t h (whole_cr t c h.trailer p.1))
-      | inr p ↦ rw p.0 (by_test (λ (b : Stepped). Grown s.password AfterLogon (rest ++ c ∷ []) b) (length t) 3 _ _
+      | inr p ↦ rw p.0 (by_test (λ (b : ScannerStepped). Grown s.password AfterLogon (rest ++ c ∷ []) b) (length t) 3 _ _
           (λ q. block_ends s rest b size total c e t h (whole_four t c h.trailer q))
           (λ q. quiet AfterLogon (rest ++ c ∷ []) (record s { brief = in_trailer size total e (t ++ c ∷ []) }) (
             b,
@@ -149,10 +152,10 @@ trailer_step s rest b size total c e t h =
     ]
 
 -- the step in a body
-body_step : (s : Held) (rest b : List ℕ) (size total c : ℕ) → InBody rest s.kept size total b
+body_step : (s : ScannerState) (rest b : List ℕ) (size total c : ℕ) → InBody rest s.kept size total b
     → Grown s.password AfterLogon (rest ++ c ∷ []) (step_by s (in_body size total) c)
 body_step s rest b size total c h =
-    let P : Stepped → Type 0 = λ z. Grown s.password AfterLogon (rest ++ c ∷ []) z in
+    let P : ScannerStepped → Type 0 = λ z. Grown s.password AfterLogon (rest ++ c ∷ []) z in
     by_test P c stx _ _ (λ e. cut_off e)
     (λ n2. by_test P c etx _ _ (λ e. ended Etx e)
     (λ n3. by_test P c etb _ _ (λ e. ended Etb e)
@@ -194,7 +197,7 @@ body_step s rest b size total c h =
         }
 
 -- the step behind an EOT
-eot_step : (s : Held) (rest : List ℕ) (c : ℕ) → rest ≡ eot ∷ [] → Grown s.password AfterLogon (rest ++ c ∷ []) (step_by s after_eot c)
+eot_step : (s : ScannerState) (rest : List ℕ) (c : ℕ) → rest ≡ eot ∷ [] → Grown s.password AfterLogon (rest ++ c ∷ []) (step_by s after_eot c)
 eot_step s rest c h = rw h (by_test (λ z. Grown s.password AfterLogon (eot ∷ c ∷ []) z) c cr _ _
     (λ p. record {
       new = bye ∷ [];
@@ -237,12 +240,12 @@ line_no_body password (c ∷ l) kept = no_body (is_logon password (c ∷ l))
     no_body false = tt
 
 -- the step in a line
-line_step : (s : Held) (rest l : List ℕ) (c : ℕ) → IsBrief BeforeLogon rest s.kept (in_line l)
+line_step : (s : ScannerState) (rest l : List ℕ) (c : ℕ) → IsBrief BeforeLogon rest s.kept (in_line l)
     → Grown s.password BeforeLogon (rest ++ c ∷ []) (step_by s (in_line l) c)
 line_step s rest l c h =
-    let P : Stepped → Type 0 = λ z. Grown s.password BeforeLogon (rest ++ c ∷ []) z in
+    let P : ScannerStepped → Type 0 = λ z. Grown s.password BeforeLogon (rest ++ c ∷ []) z in
     by_test P c cr _ _ (λ p. ends p)
-    (λ n. by_test (λ (z : Held). Grown s.password BeforeLogon (rest ++ c ∷ []) (silent z)) c lf _ _
+    (λ n. by_test (λ (z : ScannerState). Grown s.password BeforeLogon (rest ++ c ∷ []) (silent z)) c lf _ _
     (λ p. quiet BeforeLogon (rest ++ c ∷ []) (record s { brief = in_line l }) (h.0 ∙ ap (take 11) (sym (no_lf p)), all_push _ rest c h.1 n))
     (λ m. quiet BeforeLogon (rest ++ c ∷ []) (record s { brief = in_line (push_within 11 l c) }) (rw h.0 (take_push 11 (without_lf rest) c ∙ ap (take 11) (sym (with_char m))), all_push _ rest c h.1 n)))
   where
@@ -269,7 +272,7 @@ line_step s rest l c h =
     }
 
 -- the step in any place
-pub grows : (s : Held) (mode : Mode) (rest : List ℕ) (brief : Brief) (c : ℕ) → IsBrief mode rest s.kept brief
+pub grows : (s : ScannerState) (mode : Mode) (rest : List ℕ) (brief : Brief) (c : ℕ) → IsBrief mode rest s.kept brief
     → Grown s.password mode (rest ++ c ∷ []) (step_by s brief c)
 grows s BeforeLogon rest (in_line l) c h = line_step s rest l c h
 grows s AfterLogon rest between c h = rw h (begun s c)
@@ -283,9 +286,9 @@ grows s BeforeLogon rest (in_body size total) c h = elim h [ ]
 grows s BeforeLogon rest (in_trailer size total e t) c h = elim h [ ]
 
 -- a scanner with that password stands for what is read by it
-pub stands_by : (from : Mode) (t : Held) (password : Option (List ℕ)) (pieces : List Piece) (rest x : List ℕ) (items : List Entry)
+pub stands_by : (from : Mode) (t : ScannerState) (password : Option (List ℕ)) (pieces : List InputPiece) (rest x : List ℕ) (items : List Entry)
     → t.password ≡ password → Reads password from pieces rest x → items ≡ items_of password pieces
-    → IsBrief (mode_at password from pieces) rest t.kept t.brief → StandsFor from t x items
+    → IsBrief (mode_at password from pieces) rest t.kept t.brief → ScannerStandsFor from t x items
 stands_by from t password pieces rest x items e reads items_are brief_is = record {
   pieces = pieces;
   rest = rest;
@@ -295,43 +298,43 @@ stands_by from t password pieces rest x items e reads items_are brief_is = recor
 }
 
 -- what stands for x stands for one character more after a step
-pub stands_on : (from : Mode) (s : Held) (x : List ℕ) (items : List Entry) (c : ℕ) → StandsFor from s x items
-    → ReadsOn from (step s c).held x items c (step s c).answer
+pub stands_on : (from : Mode) (s : ScannerState) (x : List ℕ) (items : List Entry) (c : ℕ) → ScannerStandsFor from s x items
+    → ReadsOn from (scanner_step s c).held x items c (scanner_step s c).answer
 stands_on from s x items c h =
     let g = grows s (mode_at s.password from h.pieces) h.rest s.brief c h.brief_is in
     record {
       further = g.further;
-      stands = stands_by from (step s c).held s.password (h.pieces ++ g.new) g.rest (x ++ c ∷ []) (items ++ option_to_list g.further)
+      stands = stands_by from (scanner_step s c).held s.password (h.pieces ++ g.new) g.rest (x ++ c ∷ []) (items ++ option_to_list g.further)
           g.password_is (goes_on s.password from h.pieces g.new h.rest g.rest x (c ∷ []) h.reads g.reads)
           (joined h.pieces g.new (option_to_list g.further) h.items_are g.items_are)
-          (subst (λ m. IsBrief m g.rest (step s c).held.kept (step s c).held.brief) (sym (mode_at-append s.password from h.pieces g.new)) g.brief_is);
+          (subst (λ m. IsBrief m g.rest (scanner_step s c).held.kept (scanner_step s c).held.brief) (sym (mode_at-append s.password from h.pieces g.new)) g.brief_is);
       answer_is = g.answer_is;
       body_is = g.body_is;
     }
   where
-    joined : (ps new : List Piece) (more : List Entry) → items ≡ items_of s.password ps → items_of s.password new ≡ more → items ++ more ≡ items_of s.password (ps ++ new)
+    joined : (ps new : List InputPiece) (more : List Entry) → items ≡ items_of s.password ps → items_of s.password new ≡ more → items ++ more ≡ items_of s.password (ps ++ new)
     joined ps new more e f = rw (filter_map-append (item_of s.password) ps new) (rw (e, f) refl)
 
 -- the password is the same after a step
-abbrev Same : Held → Stepped → Type 0
+abbrev Same : ScannerState → ScannerStepped → Type 0
 Same s z = z.held.password ≡ s.password
 
 -- a step keeps the password
-pub step-password : (s : Held) (c : ℕ) → (step s c).held.password ≡ s.password
+pub step-password : (s : ScannerState) (c : ℕ) → (scanner_step s c).held.password ≡ s.password
 step-password s c = kept_by s.brief
   where
     begins : Same s (silent (begin_item s c))
-    begins = by_test (λ (z : Held). z.password ≡ s.password) c stx _ _ (λ _. refl) (λ _. refl)
+    begins = by_test (λ (z : ScannerState). z.password ≡ s.password) c stx _ _ (λ _. refl) (λ _. refl)
 
     kept_by : (brief : Brief) → Same s (step_by s brief c)
-    kept_by (in_line l) = by_test (Same s) c cr _ _ (λ _. refl) (λ _. by_test (λ (z : Held). z.password ≡ s.password) c lf _ _ (λ _. refl) (λ _. refl))
+    kept_by (in_line l) = by_test (Same s) c cr _ _ (λ _. refl) (λ _. by_test (λ (z : ScannerState). z.password ≡ s.password) c lf _ _ (λ _. refl) (λ _. refl))
     kept_by between = begins
     kept_by after_eot = by_test (Same s) c cr _ _ (λ _. refl) (λ _. begins)
     kept_by (in_body size total) = by_test (Same s) c stx _ _ (λ _. begins) (λ _. by_test (Same s) c etx _ _ (λ _. refl) (λ _. by_test (Same s) c etb _ _ (λ _. refl) (λ _. by_test (Same s) c us _ _ (λ _. refl) (λ _. refl))))
     kept_by (in_trailer size total e t) = elim (is_whole t c) as (λ b. Same s (cond b (end_block s size total e (t ++ c ∷ [])) (silent (record s { brief = in_trailer size total e (t ++ c ∷ []) })))) [ true ↦ refl | false ↦ refl ]
 
 -- nothing read yet
-pub stands_nil : (from : Mode) (s : Held) → IsBrief from [] s.kept s.brief → StandsFor from s [] []
+pub stands_nil : (from : Mode) (s : ScannerState) → IsBrief from [] s.kept s.brief → ScannerStandsFor from s [] []
 stands_nil from s h = record {
   pieces = [];
   rest = [];

@@ -1,13 +1,14 @@
 -- A list that is one block from its first character to its last: how it is read, and how its fronts are.
 use Rattle.std.proofs.Common.{◌≡◌, ◌≢◌, ℕ, List, [], ◌∷◌, ◌++◌, length, length-append, drop, get_or, Option, Some, None, refl, sym, ◌∙◌, ap, ap₂, subst, append_assoc, append-nil, arith}
 use Rattle.tap_block.specs.declared.ends.End.TheVariants.{Etx}
-use Rattle.tap_block.specs.Chars.{cr, etb, etx, stx, us}
-use Rattle.tap_block.specs.Reading.{AfterLogon, block, IsBody, IsTrailer, items_of, Mode, Piece, Reads}
+use Rattle.entry_line.specs.Chars.{cr}
+use Rattle.tap_block.specs.Chars.{etb, etx, stx, us}
+use Rattle.tap_block.specs.Reading.{AfterLogon, block, IsBody, IsTrailer, items_of, Mode, InputPiece, Reads}
 use Rattle.tap_block.proofs.First.{after_trailer, body_cut, body_skipped, first_piece, found, no_piece, not_equal, trailer_cut}
 use Rattle.tap_block.proofs.Exists.{Cut, sound, trailer_sound, TrailerCut}
 
 -- where no piece stands at the front a list is read as no pieces
-pub no_pieces : (password : Option (List ℕ)) (mode : Mode) (pieces : List Piece) (rest x : List ℕ) → first_piece mode x ≡ None → Reads password mode pieces rest x → pieces ≡ []
+pub no_pieces : (password : Option (List ℕ)) (mode : Mode) (pieces : List InputPiece) (rest x : List ℕ) → first_piece mode x ≡ None → Reads password mode pieces rest x → pieces ≡ []
 no_pieces password mode [] rest x none h = refl
 no_pieces password mode (p ∷ pieces) rest x none h =
     let f = found mode p h.0 h.2 in
@@ -15,18 +16,18 @@ no_pieces password mode (p ∷ pieces) rest x none h =
     absurd (let no : None ≡ Some (p, h.0) = sym none ∙ (e ∙ f) in cc)
 
 -- where a piece stands at the front a list is read as it and further pieces
-pub first_read : (password : Option (List ℕ)) (mode : Mode) (p : Piece) (pieces : List Piece) (next rest x : List ℕ) → first_piece mode x ≡ Some (p, next) → Reads password mode pieces rest x
-    → (others : List Piece) × (pieces ≡ p ∷ others)
+pub first_read : (password : Option (List ℕ)) (mode : Mode) (p : InputPiece) (pieces : List InputPiece) (next rest x : List ℕ) → first_piece mode x ≡ Some (p, next) → Reads password mode pieces rest x
+    → (others : List InputPiece) × (pieces ≡ p ∷ others)
 first_read password mode p [] next rest x some h =
-    let P : Option (Piece × List ℕ) → Type 0 = λ o. Cut mode x o in
+    let P : Option (InputPiece × List ℕ) → Type 0 = λ o. Cut mode x o in
     let cut = subst P some (sound mode x) in
     absurd (h.1 p next (sym h.0 ∙ cut.0) cut.1)
 first_read password mode p (q ∷ pieces) next rest x some h =
     let f = found mode q h.0 h.2 in
     let e = ap (first_piece mode) h.1 in
-    let same : ◌≡◌ {A = Option (Piece × List ℕ)} (Some (q, h.0)) (Some (p, next)) = sym (e ∙ f) ∙ some in
-    let pair : ◌≡◌ {A = Piece × List ℕ} (q, h.0) (p, next) = cc in
-    (pieces, ap (λ (r : Piece × List ℕ). r.0 ∷ pieces) pair)
+    let same : ◌≡◌ {A = Option (InputPiece × List ℕ)} (Some (q, h.0)) (Some (p, next)) = sym (e ∙ f) ∙ some in
+    let pair : ◌≡◌ {A = InputPiece × List ℕ} (q, h.0) (p, next) = cc in
+    (pieces, ap (λ (r : InputPiece × List ℕ). r.0 ∷ pieces) pair)
 
 -- a front of a trailer that isn't whole is no trailer
 front_of_trailer : (t more : List ℕ) → IsTrailer (t ++ more) → more ≢ [] → trailer_cut t ≡ None
@@ -84,7 +85,7 @@ init_of d (e ∷ ys) = let r = init_of e ys in (d ∷ r.0, r.1, ap (λ (l : List
 
 -- STX, a body, ETX and what follows is one block with what follows as its trailer, where the whole list is read with an item and the
 -- list without its last character with none.
-pub lone_trailer : (password : Option (List ℕ)) (b t p : List ℕ) (c : ℕ) (ps qs : List Piece) (r s : List ℕ) → IsBody b → p ++ c ∷ [] ≡ (stx ∷ b) ++ etx ∷ t
+pub lone_trailer : (password : Option (List ℕ)) (b t p : List ℕ) (c : ℕ) (ps qs : List InputPiece) (r s : List ℕ) → IsBody b → p ++ c ∷ [] ≡ (stx ∷ b) ++ etx ∷ t
     → Reads password AfterLogon ps r p → items_of password ps ≡ [] → Reads password AfterLogon qs s ((stx ∷ b) ++ etx ∷ t) → items_of password qs ≢ [] → IsTrailer t
 lone_trailer password b t p c ps qs r s body e before none whole some = by_cut (trailer_cut t) refl (trailer_sound t)
   where

@@ -1,12 +1,12 @@
 -- The two parts of a content, as a function.
 use Rattle.std.proofs.Common.{◌≡◌, ℕ, List, [], ◌∷◌, ◌++◌, Option, Some, None, refl, ap, subst, ◌∙◌}
-use Rattle.tap_block.specs.Chars.{cr}
-use Rattle.tap_block.specs.Fields.{AreParts, line_cut, parts_of, first_part, second_part}
+use Rattle.entry_line.specs.Chars.{cr}
+use Rattle.tap_block.specs.Fields.{AreParts, line_cut, content_parts, first_part, second_part}
 use Rattle.tap_block.proofs.First.{line_found}
 use Rattle.tap_block.proofs.Exists.{line_is}
 
 -- the parts of a content are cut out of it
-pub parts_some : (x a b : List ℕ) → AreParts x a b → parts_of x ≡ Some (a, b)
+pub parts_some : (x a b : List ℕ) → AreParts x a b → content_parts x ≡ Some (a, b)
 parts_some x a b p =
     let e : line_cut x ≡ Some (a, b ++ cr ∷ []) = ap line_cut p.form ∙ line_found a (b ++ cr ∷ []) p.no_cr_first in
     rw (e, line_found b [] p.no_cr_second) refl
@@ -25,7 +25,7 @@ cut_parts x (Some (first, rest)) e h = second (line_cut rest) refl
     second (Some (b, d ∷ more)) f = refl
 
 -- nothing is cut out of a content without parts
-pub parts_none : (x : List ℕ) → ((a b : List ℕ) → AreParts x a b → ⊥) → parts_of x ≡ None
+pub parts_none : (x : List ℕ) → ((a b : List ℕ) → AreParts x a b → ⊥) → content_parts x ≡ None
 parts_none x h = cut_parts x (line_cut x) refl h
 
 -- by what is cut off first and second
@@ -46,5 +46,5 @@ parts_cut_off x a b (Some (first, rest)) e h = second (line_cut rest) refl h
     second (Some (last, d ∷ more)) f h = absurd cc
 
 -- the parts that are cut out of a content are its parts
-pub parts_are : (x a b : List ℕ) → parts_of x ≡ Some (a, b) → AreParts x a b
+pub parts_are : (x a b : List ℕ) → content_parts x ≡ Some (a, b) → AreParts x a b
 parts_are x a b h = parts_cut_off x a b (line_cut x) refl h

@@ -3,7 +3,8 @@ use Rattle.std.proofs.Common.{◌≡◌, ℕ, List, [], ◌∷◌, ◌++◌, len
 use Rattle.std.specs.Prelude.{codes}
 use Rattle.tap_block.specs.declared.ends.End.TheVariants.{Etx, Etb, Us}
 use Rattle.tap_block.specs.declared.faults.FieldFault.TheVariants.{Control, SubEnd, SubLetter}
-use Rattle.tap_block.specs.Chars.{stx, etx, eot, cr, lf, etb, us, sub, esc, sum_of, written}
+use Rattle.entry_line.specs.Chars.{lf, cr}
+use Rattle.tap_block.specs.Chars.{stx, etx, eot, etb, us, sub, esc, sum_of, written}
 use Rattle.tap_block.specs.Reading.{BeforeLogon, AfterLogon, Entry, empty_line, logon, wrong_line, a_block, a_bye, items_of}
 use Rattle.tap_block.specs.Fields.{read_field}
 use Rattle.tap_block.proofs.Exists.{cut}

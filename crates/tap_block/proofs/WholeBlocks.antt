@@ -4,7 +4,8 @@ use Rattle.std.specs.List.{AllByRecursion}
 use Rattle.std.proofs.lemmas.Slice.Eq.{bytes_eq-Decides}
 use Rattle.tap_block.specs.declared.ends.End.{End}
 use Rattle.tap_block.specs.declared.ends.End.TheVariants.{Etx, Etb, Us}
-use Rattle.tap_block.specs.Chars.{IsChar, characters, cr, end_char, stx, sum_of, written}
+use Rattle.entry_line.specs.Chars.{cr}
+use Rattle.tap_block.specs.Chars.{IsChar, characters, end_char, stx, sum_of, written}
 use Rattle.tap_block.specs.Fields.{block_of}
 use Rattle.tap_block.specs.Reading.{AfterLogon, block, IsBody, IsTrailer, is_right, Reads, items_of, a_block}
 use Rattle.tap_block.proofs.First.{no_piece, equal, all_push}

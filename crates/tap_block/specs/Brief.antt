@@ -5,8 +5,9 @@ use Rattle.std.specs.Option.{option_to_list, option_map}
 use Rattle.tap_block.specs.declared.ends.End.{End}
 use Rattle.tap_block.specs.declared.items.Item.{Item}
 use Rattle.tap_block.specs.declared.items.Item.TheVariants.{EmptyLine, Logon, WrongLine, Block, Bye}
-use Rattle.tap_block.specs.Chars.{stx, eot, cr, sum_of, end_char}
-use Rattle.tap_block.specs.Reading.{Mode, BeforeLogon, AfterLogon, Piece, IsBody, Reads, mode_at, items_of, without_lf, Entry, logon, empty_line, wrong_line, a_block, a_bye}
+use Rattle.entry_line.specs.Chars.{cr}
+use Rattle.tap_block.specs.Chars.{stx, eot, sum_of, end_char}
+use Rattle.tap_block.specs.Reading.{Mode, BeforeLogon, AfterLogon, InputPiece, IsBody, Reads, mode_at, items_of, without_lf, Entry, logon, empty_line, wrong_line, a_block, a_bye}
 
 -- how many characters of a body are kept, and how many of a line, which is one more than the longest logon has
 abbrev pub body_kept : ℕ
@@ -33,7 +34,7 @@ pub data Brief : Type 0 where
   in_trailer : ℕ → ℕ → End → List ℕ → Brief
 
 -- what a scanner holds: the password, the front of the last body, and the form of the rest
-pub record Held : Type 0 where
+pub record ScannerState : Type 0 where
   pub password : Option (List ℕ)
   pub kept : List ℕ
   pub brief : Brief
@@ -71,8 +72,8 @@ IsBrief AfterLogon rest kept (in_trailer size total e t) = (b : List ℕ) × InT
 IsBrief mode rest kept brief = ⊥
 
 -- The scanner stands for the characters x, read from this mode on, and these are their items.
-pub record StandsFor (from : Mode) (s : Held) (x : List ℕ) (items : List Entry) : Type 0 where
-  pub pieces : List Piece
+pub record ScannerStandsFor (from : Mode) (s : ScannerState) (x : List ℕ) (items : List Entry) : Type 0 where
+  pub pieces : List InputPiece
   pub rest : List ℕ
   pub reads : Reads s.password from pieces rest x
   pub items_are : items ≡ items_of s.password pieces
@@ -92,8 +93,8 @@ BodyIs (Some (a_block b e right)) kept = kept ≡ take body_kept b
 BodyIs other kept = Unit {0}
 
 -- With one character more the items are the ones before and at most one further item, and this is the answer.
-pub record ReadsOn (from : Mode) (new : Held) (x : List ℕ) (items : List Entry) (c : ℕ) (answer : Option Item) : Type 0 where
+pub record ReadsOn (from : Mode) (new : ScannerState) (x : List ℕ) (items : List Entry) (c : ℕ) (answer : Option Item) : Type 0 where
   pub further : Option Entry
-  pub stands : StandsFor from new (x ++ c ∷ []) (items ++ option_to_list further)
+  pub stands : ScannerStandsFor from new (x ++ c ∷ []) (items ++ option_to_list further)
   pub answer_is : answer ≡ option_map answer_of further
   pub body_is : BodyIs further new.kept

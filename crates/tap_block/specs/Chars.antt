@@ -1,4 +1,5 @@
 -- Characters, and the sum of a block.
+use Rattle.entry_line.specs.Chars.{char_of}
 use Rattle.std.specs.Prelude.{ℕ, ◌+◌, ◌/◌, ◌%◌, ◌<◌, List, [], ◌∷◌, map, sum}
 use Rattle.tap_block.specs.declared.ends.End.{End}
 use Rattle.tap_block.specs.declared.ends.End.TheVariants.{Etx, Etb, Us}
@@ -14,14 +15,6 @@ etx = 3
 -- end of transmission
 abbrev pub eot : ℕ
 eot = 4
-
--- line feed
-abbrev pub lf : ℕ
-lf = 10
-
--- carriage return
-abbrev pub cr : ℕ
-cr = 13
 
 -- end of transmission block
 abbrev pub etb : ℕ
@@ -42,10 +35,6 @@ us = 31
 -- a byte that is its own character
 abbrev pub IsChar : ℕ → Type 0
 IsChar c = c < 128
-
--- a byte stands for its low seven bits
-abbrev pub char_of : ℕ → ℕ
-char_of byte = byte % 128
 
 -- the characters of bytes
 abbrev pub characters : List ℕ → List ℕ

@@ -3,7 +3,8 @@ use Rattle.std.specs.Prelude.{◌≡◌, ◌≢◌, ℕ, ◌+◌, ◌-◌, ◌�
 use Rattle.std.specs.List.{AllByRecursion, flat_map}
 use Rattle.tap_block.specs.declared.faults.FieldFault.{FieldFault}
 use Rattle.tap_block.specs.declared.faults.FieldFault.TheVariants.{Control, SubEnd, SubLetter}
-use Rattle.tap_block.specs.Chars.{cr, sub, stx, sum_of, written, end_char}
+use Rattle.entry_line.specs.Chars.{cr}
+use Rattle.tap_block.specs.Chars.{sub, stx, sum_of, written, end_char}
 use Rattle.tap_block.specs.declared.ends.End.{End}
 
 -- a plain character, or SUB and a character
@@ -109,8 +110,8 @@ first_part None = None
 first_part (Some (first, x)) = second_part first (line_cut x)
 
 -- both parts of a content
-abbrev pub parts_of : List ℕ → Option (List ℕ × List ℕ)
-parts_of content = first_part (line_cut content)
+abbrev pub content_parts : List ℕ → Option (List ℕ × List ℕ)
+content_parts content = first_part (line_cut content)
 
 -- the content has two parts, and both have a value
 pub record HasFields (content : List ℕ) (id text : List ℕ) : Type 0 where

@@ -18,7 +18,7 @@ abbrev pub brief_of : Inside → Brief
 brief_of s = brief_at s.place s.line.items s.size s.total s.trailer.items
 
 -- the fields are in their ranges
-pub record IsInRange (s : Inside) : Type 0 where
+pub record ScannerIsInRange (s : Inside) : Type 0 where
   pub size_bound : s.size ≤ body_kept + 1
   pub total_bound : s.total < 4096
   pub trailer_bound : length s.trailer.items < 4

@@ -2,10 +2,12 @@
 
 ghost use Rattle.std.specs.Prelude.{◌≡◌, ◌≢◌, ℕ, ◌+◌, ◌%◌, ◌<◌, List, [], ◌∷◌, ◌++◌, length, take, MatchOption, IfSome};
 ghost use Rattle.std.specs.List.{AllByRecursion};
-ghost use Rattle.tap_block.specs.Chars.{characters, sum_of, written, cr};
+ghost use Rattle.entry_line.specs.Chars.{cr};
+ghost use Rattle.tap_block.specs.Chars.{characters, sum_of, written};
 ghost use Rattle.tap_block.specs.Fields.{AreParts};
 
-use crate::control::CR;
+use entry_line::characters::CR;
+
 
 /// Sums are taken modulo this number.
 pub(crate) const SUMS: u32 = 4096;

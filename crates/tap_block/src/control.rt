@@ -1,4 +1,4 @@
-//! The control characters of the entry line.
+//! The control characters of TAP. LF and CR are those of every entry line.
 
 /// Start of text: a block begins.
 pub const STX: u8 = 0x02;
@@ -8,12 +8,6 @@ pub const ETX: u8 = 0x03;
 
 /// End of transmission: with a CR directly behind it, goodbye.
 pub const EOT: u8 = 0x04;
-
-/// Line feed: dropped before logon.
-pub const LF: u8 = 0x0A;
-
-/// Carriage return: a line, a field or a trailer has ended.
-pub const CR: u8 = 0x0D;
 
 /// End of transmission block: the transaction goes on in the next block.
 pub const ETB: u8 = 0x17;

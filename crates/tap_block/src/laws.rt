@@ -3,8 +3,8 @@
 ghost use Rattle.std.specs.Prelude.{◌≡◌, ◌≤◌, ◌↔◌, ℕ, [], ◌∷◌, List, Option, Some, Ok, Err, true};
 ghost use Rattle.std.specs.List.{AllByRecursion};
 ghost use Rattle.tap_block.specs.Chars.{IsChar, characters};
-ghost use Rattle.tap_block.specs.Reading.{Mode, AfterLogon, Piece, HasOneReading, Reads, IsBody, items_of, a_block};
-ghost use Rattle.tap_block.specs.Fields.{AreParts, HasValue, HasFault, block_of, escaped, parts_of, read_field};
+ghost use Rattle.tap_block.specs.Reading.{Mode, AfterLogon, InputPiece, HasOneReading, Reads, IsBody, items_of, a_block};
+ghost use Rattle.tap_block.specs.Fields.{AreParts, HasValue, HasFault, block_of, escaped, content_parts, read_field};
 ghost use Rattle.tap_block.specs.declared.ends.End.{End};
 ghost use Rattle.tap_block.specs.declared.faults.FieldFault.{FieldFault};
 
@@ -17,7 +17,7 @@ pub fn one_reading()
 /// A block that was written is read as this one block, and the field that spells a value has this value.
 pub fn written_is_read()
     ensures block { (password : Option (List ℕ)) (body : List ℕ) (end : End) → AllByRecursion IsChar body → IsBody body
-        → (piece : Piece) × Reads password AfterLogon (piece ∷ []) [] (characters (block_of body end)) × (items_of password (piece ∷ []) ≡ a_block body end true ∷ []) }
+        → (piece : InputPiece) × Reads password AfterLogon (piece ∷ []) [] (characters (block_of body end)) × (items_of password (piece ∷ []) ≡ a_block body end true ∷ []) }
     ensures escaped { (value : List ℕ) → AllByRecursion (λ c. c ≤ 126) value → HasValue (escaped value) value }
 {}
 
@@ -29,5 +29,5 @@ pub fn value_or_fault()
 
 /// The parts that the function gives are the parts of the content, and it gives none exactly where a content has none.
 pub fn parts()
-    ensures { (content first second : List ℕ) → (parts_of content ≡ Some (first, second)) ↔ AreParts content first second }
+    ensures { (content first second : List ℕ) → (content_parts content ≡ Some (first, second)) ↔ AreParts content first second }
 {}

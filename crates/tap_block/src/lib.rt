@@ -40,3 +40,6 @@ pub const LONGEST_BODY: usize = 250;
 
 /// The most characters that a trailer has. A right one is the three of the sum, and CR.
 pub const TRAILER: usize = 4;
+
+/// The most characters that a block has: STX, the body, its end and the trailer.
+pub const LONGEST_BLOCK: usize = 1 + LONGEST_BODY + 1 + TRAILER;

@@ -12,17 +12,20 @@
 
 ghost use Rattle.std.specs.Prelude.{◌≡◌, ◌↔◌, ℕ, ◌+◌, ◌<◌, ◌≤◌, List, [], ◌∷◌, ◌++◌, length, None, nat_eq};
 ghost use lib.Pointwise.{pointwise};
-ghost use Rattle.tap_block.specs.Chars.{char_of, written, end_char, cr};
-ghost use Rattle.tap_block.specs.Reading.{Mode, BeforeLogon, AfterLogon, Entry, line_item, is_password};
-ghost use Rattle.tap_block.specs.Brief.{StandsFor, ReadsOn, in_line, in_body, in_trailer, answer_of};
-ghost use Rattle.tap_block.specs.Step.{step, step_by, begin_item, end_body, push_within};
+ghost use Rattle.entry_line.specs.Chars.{cr, char_of};
+ghost use Rattle.tap_block.specs.Chars.{written, end_char};
+ghost use Rattle.tap_block.specs.Reading.{Mode, BeforeLogon, AfterLogon, Entry, line_item, is_password_word};
+ghost use Rattle.tap_block.specs.Brief.{ScannerStandsFor, ReadsOn, in_line, in_body, in_trailer, answer_of};
+ghost use Rattle.tap_block.specs.Step.{scanner_step, step_by, begin_item, end_body};
 
 use crate::content::{SUMS, sum_written};
-use crate::control::{CR, EOT, ESC, ETB, ETX, LF, STX, US};
+use crate::control::{EOT, ESC, ETB, ETX, STX, US};
 use crate::ends::End;
 use crate::items::Item;
 use crate::{LONGEST_BODY, TRAILER};
 use arrayvec::ArrayVec;
+use entry_line::characters::{CR, LF, PASSWORD_SIZE};
+use entry_line::kept::push_within;
 use std::marker::Model;
 
 /// How many characters of a line are kept: one more than the longest logon has.
@@ -30,9 +33,6 @@ const LINE_KEPT: usize = 11;
 
 /// The length that stands for all bodies that are too long.
 const TOO_LONG: u32 = 251;
-
-/// How many characters a password has.
-const PASSWORD: usize = 6;
 
 /// Where a scanner stands: what has been read since the last item.
 #[derive(Clone, Copy)]
@@ -49,10 +49,10 @@ enum Place {
     InTrailer(End),
 }
 
-/// Reads the entry line, one byte at a time. A contract sees it as what it keeps (`Held`).
+/// Reads the entry line, one byte at a time. A contract sees it as what it keeps (`ScannerState`).
 #[derive(Drop)]
 pub struct Scanner {
-    password: Option<[u8; PASSWORD]>,
+    password: Option<[u8; PASSWORD_SIZE]>,
     place: Place,
     /// The first characters of the line, without LF.
     line: ArrayVec<u8, LINE_KEPT>,
@@ -68,22 +68,22 @@ pub struct Scanner {
 
 impl Model for Scanner {
     ghost use Rattle.std.specs.Prelude.{ℕ, ◌≤◌, ◌<◌};
-    ghost use Rattle.tap_block.specs.Brief.{Held};
+    ghost use Rattle.tap_block.specs.Brief.{ScannerState};
 
-    ghost Value = { Held };
+    ghost Value = { ScannerState };
 
-    ghost use Rattle.tap_block.specs.View.{brief_of, IsInRange};
+    ghost use Rattle.tap_block.specs.View.{brief_of, ScannerIsInRange};
 
     ghost view = { λ s. record { password = s.password; kept = s.body.items; brief = brief_of s } };
 
-    ghost invariant = { IsInRange };
+    ghost invariant = { ScannerIsInRange };
 }
 
 impl Scanner {
     /// Starts before logon. With a password only the logon with it counts, and without one every logon.
-    pub fn new(password: Option<[u8; PASSWORD]>) -> Scanner
+    pub fn new(password: Option<[u8; PASSWORD_SIZE]>) -> Scanner
         ensures password { result.password ≡ password }
-        ensures stands { StandsFor BeforeLogon result [] [] }
+        ensures stands { ScannerStandsFor BeforeLogon result [] [] }
     {
         Scanner {
             password,
@@ -99,7 +99,7 @@ impl Scanner {
     /// Starts after logon.
     pub fn blocks() -> Scanner
         ensures password { result.password ≡ None }
-        ensures stands { StandsFor AfterLogon result [] [] }
+        ensures stands { ScannerStandsFor AfterLogon result [] [] }
     {
         Scanner {
             password: None,
@@ -118,7 +118,7 @@ impl Scanner {
     /// of the longer list are those before it and this answer. Where the answer is a block, `body` lends the front of its body.
     pub fn feed(&mut self, byte: u8) -> Option<Item>
         ensures password { self.new.password ≡ self.old.password }
-        ensures reads { (from : Mode) (x : List ℕ) (items : List Entry) → StandsFor from self.old x items → ReadsOn from self.new x items (char_of byte) result }
+        ensures reads { (from : Mode) (x : List ℕ) (items : List Entry) → ScannerStandsFor from self.old x items → ReadsOn from self.new x items (char_of byte) result }
     {
         self.step(byte % 128)
     }
@@ -134,8 +134,8 @@ impl Scanner {
     /// Takes a character.
     fn step(&mut self, c: u8) -> Option<Item>
         requires { c < 128 }
-        ensures held { self.new ≡ (step self.old c).held }
-        ensures answer { result ≡ (step self.old c).answer }
+        ensures held { self.new ≡ (scanner_step self.old c).held }
+        ensures answer { result ≡ (scanner_step self.old c).answer }
     {
         match self.place {
             Place::InLine => self.step_line(c),
@@ -242,15 +242,6 @@ impl Scanner {
     }
 }
 
-/// Appends a character where there is room.
-fn push_within<const N: usize>(characters: &mut ArrayVec<u8, N>, c: u8)
-    ensures { characters.new.items ≡ push_within N characters.old.items c }
-{
-    if !characters.is_full() {
-        characters.push(c);
-    }
-}
-
 /// Whether a trailer is this sum and CR.
 fn is_right(trailer: &[u8], total: u32) -> bool
     requires { total < SUMS }
@@ -261,7 +252,7 @@ fn is_right(trailer: &[u8], total: u32) -> bool
 }
 
 /// The item of a line without LF and CR.
-fn line_item(password: &Option<[u8; PASSWORD]>, line: &[u8]) -> Item
+fn line_item(password: &Option<[u8; PASSWORD_SIZE]>, line: &[u8]) -> Item
     ensures { result ≡ answer_of (line_item password.now line.now) }
 {
     match line {
@@ -272,11 +263,11 @@ fn line_item(password: &Option<[u8; PASSWORD]>, line: &[u8]) -> Item
 }
 
 /// Whether this is the password, or where there is none, whether it is none or has six characters.
-fn is_password(password: &Option<[u8; PASSWORD]>, word: &[u8]) -> bool
-    ensures { result ≡ is_password password.now word.now }
+fn is_password(password: &Option<[u8; PASSWORD_SIZE]>, word: &[u8]) -> bool
+    ensures { result ≡ is_password_word password.now word.now }
 {
     match password {
-        None => word.is_empty() || word.len() == PASSWORD,
-        Some(password) => word.len() == PASSWORD && word == password.as_slice(),
+        None => word.is_empty() || word.len() == PASSWORD_SIZE,
+        Some(password) => word.len() == PASSWORD_SIZE && word == password.as_slice(),
     }
 }

@@ -1,7 +1,8 @@
 //! A plain program beside the scanner, which it is compared with: it reads a whole list of characters, looks as far ahead as it
 //! likes, and counts each sum anew.
 
-use crate::control::{CR, EOT, ESC, ETB, ETX, LF, STX, US};
+use crate::control::{EOT, ESC, ETB, ETX, STX, US};
+use entry_line::characters::{CR, LF};
 use crate::ends::End;
 use crate::items::Item;
 use std::alloc::{AllocError, Global};

@@ -8,15 +8,13 @@ ghost use Rattle.tap_block.specs.Chars.{IsChar};
 ghost use Rattle.wires.specs.Written.{Puts};
 
 use crate::content::sum;
-use crate::control::{CR, STX};
+use crate::control::STX;
 use crate::ends::End;
-use crate::{LONGEST_BODY, TRAILER};
+use crate::{LONGEST_BLOCK, LONGEST_BODY};
 use arrayvec::ArrayVec;
+use entry_line::characters::CR;
 use wires::Failed;
 use wires::sink::Sink;
-
-/// How many characters the longest block has: STX, the body, the end and the trailer.
-const LONGEST_BLOCK: usize = 1 + LONGEST_BODY + 1 + TRAILER;
 
 /// Puts a whole block as one piece: STX, the body, the end, and a right trailer. After `Failed` the sink has got a prefix of it.
 pub fn put_block<K: Sink>(body: &[u8], end: End, sink: &mut K) -> Result<(), Failed>

@@ -5,10 +5,11 @@ use Rattle.std.proofs.lemmas.List.{take_all, take_min}
 use Rattle.std.specs.List.{AllByRecursion}
 use Rattle.std.proofs.lemmas.Bool.{cases_lt}
 use Rattle.std.proofs.lemmas.Bool.Decides.{nat_tests}
-use Rattle.tap_block.specs.Chars.{IsChar, cr, sub}
+use Rattle.entry_line.specs.Chars.{cr}
+use Rattle.tap_block.specs.Chars.{IsChar, sub}
 use Rattle.tap_block.specs.Fields.{escaped, escape_of}
 use Rattle.tap_block.specs.Reading.{IsBodyChar, IsBody}
-use Rattle.tap_entry.specs.Client.{Page, IsPage, content, count_of, is_last_at}
+use Rattle.tap_entry.specs.Client.{PageToSend, IsPage, content, count_of, is_last_at}
 use Rattle.tap_entry.specs.Sound.{IsSound}
 
 all_append : (P : ℕ → Type 0) (x y : List ℕ) → AllByRecursion P x → AllByRecursion P y → AllByRecursion P (x ++ y)
@@ -61,7 +62,7 @@ both_cr : Both cr
 both_cr = (omega arith, ((λ e. cc), (λ e. cc), (λ e. cc), (λ e. cc)))
 
 -- the content of a page is cut into blocks as it stands
-pub content_sound : (p : Page) → IsPage p → IsSound (content p) 0 0
+pub content_sound : (p : PageToSend) → IsPage p → IsSound (content p) 0 0
 content_sound p h =
     let k = both_split (content p) (all_append Both p.id (cr ∷ (escaped p.text ++ cr ∷ [])) (digits_both p.id h.id_digits)
     (both_cr, all_append Both (escaped p.text) (cr ∷ []) (escaped_both p.text h.text_chars) (both_cr, tt))) in

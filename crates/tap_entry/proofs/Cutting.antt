@@ -2,7 +2,7 @@
 use Rattle.std.proofs.Common.{◌≡◌, ℕ, suc, zero, ◌<◌, Bool, true, false, ◌&&◌, List, [], ◌∷◌, ◌++◌, length, take, nat_eq, refl, ap, sym, ◌∙◌, subst, append_assoc, append-nil, arith, ◌⊎◌, inl, inr}
 use Rattle.std.specs.List.{AllByRecursion, flat_map}
 use Rattle.std.specs.Prelude.{codes}
-use Rattle.tap_block.specs.Chars.{cr}
+use Rattle.entry_line.specs.Chars.{cr}
 use Rattle.tap_entry.specs.Marks.{Ends, IsOpen, IsPiece, Cuts, same}
 
 -- a list and one more, cut in two: the one more is in the second part, or there is no second part

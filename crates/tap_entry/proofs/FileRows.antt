@@ -1,7 +1,7 @@
 -- Worked pages files.
 use Rattle.std.proofs.Common.{[], ◌∷◌, ◌++◌, refl, arith, None, inr}
 use Rattle.std.specs.Prelude.{codes}
-use Rattle.tap_block.specs.Chars.{lf}
+use Rattle.entry_line.specs.Chars.{lf}
 use Rattle.tap_entry.specs.PagesFile.{plain, a_backslash, a_line_feed, a_return, hexadecimal, IsWritten, IsFile, IsWrongLine}
 use Rattle.tap_entry.proofs.PageLines.{id_none, page_id}
 

@@ -3,21 +3,21 @@ use Rattle.std.proofs.Common.{◌≡◌, ℕ, ◌≤◌, List, [], ◌∷◌, �
 use Rattle.std.specs.List.{AllByRecursion}
 use Rattle.tap_entry.specs.declared.faults.PagesFault.{PagesFault}
 use Rattle.tap_entry.specs.declared.faults.PagesFault.TheVariants.{Memory}
-use Rattle.tap_entry.specs.Client.{Page, IsPage}
-use Rattle.tap_entry.specs.PagesFile.{AreLinesOf, first_line, Told, IsTold, Begins, IsFile, IsRefused, most_bytes}
+use Rattle.tap_entry.specs.Client.{PageToSend, IsPage}
+use Rattle.tap_entry.specs.PagesFile.{AreLinesOf, first_line, FileContent, IsRightFile, Begins, IsFile, IsFileRefused, most_pages_bytes}
 use Rattle.tap_entry.specs.Signs.{PagesUpTo, BeginsFile, StopsAt}
 
-all_pages : (pages : List Page) (lines : List (List ℕ)) → AreLinesOf pages lines → AllByRecursion IsPage pages
+all_pages : (pages : List PageToSend) (lines : List (List ℕ)) → AreLinesOf pages lines → AllByRecursion IsPage pages
 all_pages [] [] h = tt
 all_pages [] (l ∷ lines) h = elim h [ ]
 all_pages (p ∷ pages) [] h = elim h [ ]
 all_pages (p ∷ pages) (l ∷ lines) h = (h.0.fits, all_pages pages lines h.1)
 
-abbrev told : Option (List ℕ) → List Page → Told
+abbrev told : Option (List ℕ) → List PageToSend → FileContent
 told password pages = record { password = password; pages = pages }
 
 -- a file begins with its first line and the lines of its pages
-pub begins_of : (x : List ℕ) (password : Option (List ℕ)) (rest : List ℕ) (pages : List Page) (behind : List ℕ) → BeginsFile x password rest → PagesUpTo rest pages behind → Begins x (told password pages) behind
+pub begins_of : (x : List ℕ) (password : Option (List ℕ)) (rest : List ℕ) (pages : List PageToSend) (behind : List ℕ) → BeginsFile x password rest → PagesUpTo rest pages behind → Begins x (told password pages) behind
 begins_of x password rest pages behind h k = record {
   lines = k.lines;
   password = h.is_password;
@@ -26,16 +26,16 @@ begins_of x password rest pages behind h k = record {
   form = h.form ∙ ap (λ z. first_line password ++ z) k.form;
 }
 
-pub told_of : (x : List ℕ) (password : Option (List ℕ)) (rest : List ℕ) (pages : List Page) → BeginsFile x password rest → PagesUpTo rest pages [] → IsTold (told password pages)
+pub told_of : (x : List ℕ) (password : Option (List ℕ)) (rest : List ℕ) (pages : List PageToSend) → BeginsFile x password rest → PagesUpTo rest pages [] → IsRightFile (told password pages)
 told_of x password rest pages h k = record { password = h.is_password; each = all_pages pages k.lines k.each; few = k.few }
 
-pub file_of : (x : List ℕ) (password : Option (List ℕ)) (rest : List ℕ) (pages : List Page) → length x ≤ most_bytes → BeginsFile x password rest → PagesUpTo rest pages [] → IsFile x (told password pages)
+pub file_of : (x : List ℕ) (password : Option (List ℕ)) (rest : List ℕ) (pages : List PageToSend) → length x ≤ most_pages_bytes → BeginsFile x password rest → PagesUpTo rest pages [] → IsFile x (told password pages)
 file_of x password rest pages s h k = record { short = s; whole = begins_of x password rest pages [] h k }
 
 -- a fault behind the first line
-pub refused_of : (x : List ℕ) (password : Option (List ℕ)) (rest : List ℕ) (fault : PagesFault) → length x ≤ most_bytes → BeginsFile x password rest → (fault ≡ Memory) ⊎ StopsAt rest fault → IsRefused x fault
-refused_of x password rest fault s h (inl e) = subst (IsRefused x) (sym e) tt
-refused_of x password rest fault s h (inr k) = subst (IsRefused x) (sym k.fault_is) (
+pub refused_of : (x : List ℕ) (password : Option (List ℕ)) (rest : List ℕ) (fault : PagesFault) → length x ≤ most_pages_bytes → BeginsFile x password rest → (fault ≡ Memory) ⊎ StopsAt rest fault → IsFileRefused x fault
+refused_of x password rest fault s h (inl e) = subst (IsFileRefused x) (sym e) tt
+refused_of x password rest fault s h (inr k) = subst (IsFileRefused x) (sym k.fault_is) (
   s,
   inr (record {
     told = told password k.pages;

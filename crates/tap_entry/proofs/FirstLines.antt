@@ -2,7 +2,7 @@
 use Rattle.std.proofs.Common.{◌≡◌, ◌≢◌, ℕ, ◌≤◌, cond, Bool, true, false, List, [], ◌∷◌, ◌++◌, refl, ap, ◌∙◌, subst, arith, Option, Some, None, inl, inr}
 use Rattle.std.specs.List.{AllByRecursion, list_all}
 use Rattle.std.proofs.lemmas.Bool.Decides.{eqb_tells, leb_tells, nat_tests}
-use Rattle.tap_block.specs.Chars.{lf}
+use Rattle.entry_line.specs.Chars.{lf}
 use Rattle.tap_block.proofs.First.{not_equal}
 use Rattle.tap_entry.specs.PagesFile.{IsPassword, first_line}
 use Rattle.tap_entry.specs.Signs.{BeginsFile, is_visible, six_at, password_at, first_line_at}

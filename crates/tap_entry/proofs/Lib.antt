@@ -1,5 +1,5 @@
 pub mod Cutting
-pub mod Ears
+pub mod MarkReaders
 pub mod Counts
 pub mod Steps
 pub mod Rows

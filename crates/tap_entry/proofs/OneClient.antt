@@ -1,12 +1,12 @@
 -- The marks and the pages give one list of outcomes, and one list of said characters.
 use Rattle.std.proofs.Common.{◌≡◌, ◌≢◌, ℕ, List, [], ◌∷◌, ◌++◌, refl, ap, sym, ◌∙◌, subst, Option, inl, inr}
 use Rattle.std.specs.List.{AllByRecursion}
-use Rattle.tap_block.specs.Chars.{cr}
+use Rattle.entry_line.specs.Chars.{cr}
 use Rattle.tap_entry.specs.declared.hearing.Mark.{Mark}
 use Rattle.tap_entry.specs.declared.hearing.Mark.TheVariants.{Id, Ack, Nak, Rs, End, Go}
 use Rattle.tap_entry.specs.declared.outcomes.Outcome.{Outcome}
 use Rattle.tap_entry.specs.declared.outcomes.Outcome.TheVariants.{Sent, Abandoned, TriesSpent, Disconnected, NoLogon}
-use Rattle.tap_entry.specs.Client.{Page, content, count_of, Decides, Follows, IsDecided, Sends, DecidesLogon, LogsOn, StaysCalling, IsAnswered, Client, silent, turned_away, still_calling, answered, said_for, logons}
+use Rattle.tap_entry.specs.Client.{PageToSend, content, count_of, Decides, Follows, IsDecided, Sends, DecidesLogon, LogsOn, StaysCalling, IsAnswered, Client, silent, turned_away, still_calling, answered, said_for, logons}
 use Rattle.tap_entry.proofs.FirstMarks.{First, one_first, same, before, behind, places, all_at}
 
 -- both lists are the same
@@ -29,18 +29,18 @@ one_outcome m since Nak a b h k = h.3 ∙ sym k.3
 one_outcome m since Id a b h k = elim h [ ]
 one_outcome m since Go a b h k = elim h [ ]
 
-one_follows : (outcome : Outcome) (pages : List Page) (on : List Outcome → List ℕ → Type 0) → One on → One (Follows outcome pages on)
+one_follows : (outcome : Outcome) (pages : List PageToSend) (on : List Outcome → List ℕ → Type 0) → One on → One (Follows outcome pages on)
 one_follows Sent pages on h a s b t p q = h a s b t p q
 one_follows Abandoned pages on h a s b t p q = h a s b t p q
 one_follows NoLogon pages on h a s b t p q = h a s b t p q
 one_follows TriesSpent pages on h a s b t p q = (p.0 ∙ sym q.0, p.1 ∙ sym q.1)
 one_follows Disconnected pages on h a s b t p q = (p.0 ∙ sym q.0, p.1 ∙ sym q.1)
 
-first_of : {x : List ℕ} {pages : List Page} {on : List Mark → List Outcome → List ℕ → Type 0} {marks : List Mark} {a : List Outcome} {s : List ℕ} (h : IsDecided x pages on marks a s)
+first_of : {x : List ℕ} {pages : List PageToSend} {on : List Mark → List Outcome → List ℕ → Type 0} {marks : List Mark} {a : List Outcome} {s : List ℕ} (h : IsDecided x pages on marks a s)
     → First (DecidesPage (count_of x)) marks h.since h.mark h.rest
 first_of h = record { form = h.marks_are; none = λ f m r e d. h.undecided f m r d.0 e d.1; decides = (h.outcome, h.decides) }
 
-one_decided : (x : List ℕ) (pages : List Page) (on : List Mark → List Outcome → List ℕ → Type 0) → ((rest : List Mark) → One (on rest)) → (marks : List Mark) → One (IsDecided x pages on marks)
+one_decided : (x : List ℕ) (pages : List PageToSend) (on : List Mark → List Outcome → List ℕ → Type 0) → ((rest : List Mark) → One (on rest)) → (marks : List Mark) → One (IsDecided x pages on marks)
 one_decided x pages on h marks a s b t p q =
     let f = one_first (DecidesPage (count_of x)) marks p.since p.mark p.rest q.since q.mark q.rest (first_of p) (first_of q) in
     by_same f.0 f.1 f.2
@@ -55,7 +55,7 @@ one_decided x pages on h marks a s b t p q =
           p.said_is ∙ ap (λ z. said_for x z ++ p.more) e ∙ ap (λ z. said_for x q.since ++ z) w.1 ∙ sym q.said_is,
         )
 
-one_sends : (pages : List Page) (marks : List Mark) → One (Sends pages marks)
+one_sends : (pages : List PageToSend) (marks : List Mark) → One (Sends pages marks)
 one_sends [] marks a s b t p q = (p.0 ∙ sym q.0, p.1 ∙ sym q.1)
 one_sends (page ∷ pages) marks a s b t (inl p) (inl q) = (p.outcomes_are ∙ sym q.outcomes_are, p.said_is ∙ sym q.said_is)
 one_sends (page ∷ pages) marks a s b t (inl p) (inr q) = absurd (p.undecided q.since q.mark q.rest q.outcome q.marks_are q.decides)
@@ -63,7 +63,7 @@ one_sends (page ∷ pages) marks a s b t (inr p) (inl q) = absurd (q.undecided p
 one_sends (page ∷ pages) marks a s b t (inr p) (inr q) =
     one_decided (content page) pages (λ rest others more. Sends pages rest others more) (λ rest. one_sends pages rest) marks a s b t p q
 
-one_logs_on : (mark : Mark) (pages : List Page) (rest : List Mark) → One (LogsOn mark pages rest)
+one_logs_on : (mark : Mark) (pages : List PageToSend) (rest : List Mark) → One (LogsOn mark pages rest)
 one_logs_on Go pages rest a s b t p q = one_sends pages rest a s b t p q
 one_logs_on Id pages rest a s b t p q = (p.0 ∙ sym q.0, p.1 ∙ sym q.1)
 one_logs_on Ack pages rest a s b t p q = (p.0 ∙ sym q.0, p.1 ∙ sym q.1)
@@ -93,7 +93,7 @@ not_both marks a x b y e h f k = elim (places a End x b Id y (sym e ∙ f)) [
 no_id_there : (marks b y : List Mark) → AllByRecursion (λ m. m ≢ Id) marks → marks ≡ b ++ Id ∷ y → ⊥
 no_id_there marks b y h f = all_at (λ m. m ≢ Id) b Id y (subst (AllByRecursion (λ m. m ≢ Id)) f h) refl
 
-module _ (password : Option (List ℕ)) (pages : List Page) (marks : List Mark) (a : List Outcome) (s : List ℕ) (b : List Outcome) (t : List ℕ) where
+module _ (password : Option (List ℕ)) (pages : List PageToSend) (marks : List Mark) (a : List Outcome) (s : List ℕ) (b : List Outcome) (t : List ℕ) where
   both_calling : StaysCalling password pages marks a s → StaysCalling password pages marks b t → Same a s b t
   both_calling p q =
       let f = one_id marks p.before p.since q.before q.since p.marks_are q.marks_are p.ignored q.ignored in
@@ -112,12 +112,12 @@ module _ (password : Option (List ℕ)) (pages : List Page) (marks : List Mark) 
           let w = one_logs_on q.mark pages q.rest a p.more b q.more l q.logs_on in
           (w.0, p.said_is ∙ ap (λ z. cr ∷ (logons password z ++ p.more)) e ∙ ap (λ z. cr ∷ (logons password q.since ++ z)) w.1 ∙ sym q.said_is)
 
-calling_answered : (password : Option (List ℕ)) (pages : List Page) (marks : List Mark) (a : List Outcome) (s : List ℕ) (b : List Outcome) (t : List ℕ) → StaysCalling password pages marks a s → IsAnswered password pages marks b t → ⊥
+calling_answered : (password : Option (List ℕ)) (pages : List PageToSend) (marks : List Mark) (a : List Outcome) (s : List ℕ) (b : List Outcome) (t : List ℕ) → StaysCalling password pages marks a s → IsAnswered password pages marks b t → ⊥
 calling_answered password pages marks a s b t p q =
     let f = one_id marks p.before p.since q.before (q.since ++ q.mark ∷ q.rest) p.marks_are q.marks_are p.ignored q.ignored in
     p.calling q.since q.mark q.rest f.1 q.decides
 
-pub one_client : (password : Option (List ℕ)) (pages : List Page) (marks : List Mark) (a : List Outcome) (s : List ℕ) (b : List Outcome) (t : List ℕ)
+pub one_client : (password : Option (List ℕ)) (pages : List PageToSend) (marks : List Mark) (a : List Outcome) (s : List ℕ) (b : List Outcome) (t : List ℕ)
     → Client password pages marks a s → Client password pages marks b t → (a ≡ b) × (s ≡ t)
 one_client password pages marks a s b t (silent p) (silent q) = (p.outcomes_are ∙ sym q.outcomes_are, p.said_is ∙ sym q.said_is)
 one_client password pages marks a s b t (silent p) (turned_away q) = (p.outcomes_are ∙ sym q.outcomes_are, p.said_is ∙ sym q.said_is)

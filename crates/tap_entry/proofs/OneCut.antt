@@ -4,8 +4,8 @@ use Rattle.std.specs.Option.{option_to_list}
 use Rattle.std.specs.List.{AllByRecursion, filter_map, flat_map}
 use Rattle.tap_entry.specs.declared.hearing.Mark.{Mark}
 use Rattle.tap_entry.specs.Marks.{IsOpen, IsPiece, AreMarks, mark_of}
-use Rattle.tap_entry.specs.Ears.{Ear, StandsFor, step, fresh, heard_from, marks_of}
-use Rattle.tap_entry.proofs.Ears.{stands_on, stands_nil}
+use Rattle.tap_entry.specs.MarkReaders.{MarkReader, ReaderStandsFor, reader_step, fresh, heard_from, marks_of}
+use Rattle.tap_entry.proofs.MarkReaders.{stands_on, stands_nil}
 use Rattle.tap_entry.proofs.Steps.{marks_heard}
 
 -- two lists with the same joined list: one is a front of the other
@@ -41,19 +41,19 @@ pub one_marks : (x : List ℕ) (marks others : List Mark) → AreMarks x marks �
 one_marks x marks others h k =
     h.marks_are ∙ ap (filter_map mark_of) (one_cut h.pieces h.rest k.pieces k.rest h.cuts.each k.cuts.each h.cuts.is_open k.cuts.is_open (sym h.cuts.form ∙ k.cuts.form)) ∙ sym k.marks_are
 
--- a listener that heard further characters
-record After (e : Ear) (x y : List ℕ) (marks : List Mark) : Type 0 where
-  ear : Ear
-  stands : StandsFor ear (x ++ y) (marks ++ heard_from e y)
+-- a reader of marks that heard further characters
+record After (e : MarkReader) (x y : List ℕ) (marks : List Mark) : Type 0 where
+  ear : MarkReader
+  stands : ReaderStandsFor ear (x ++ y) (marks ++ heard_from e y)
 
-after : (y x : List ℕ) (e : Ear) (marks : List Mark) → StandsFor e x marks → After e x y marks
-after [] x e marks h = record { ear = e; stands = subst (λ z. StandsFor e z (marks ++ [])) (sym (append-nil x)) (subst (λ z. StandsFor e x z) (sym (append-nil marks)) h) }
+after : (y x : List ℕ) (e : MarkReader) (marks : List Mark) → ReaderStandsFor e x marks → After e x y marks
+after [] x e marks h = record { ear = e; stands = subst (λ z. ReaderStandsFor e z (marks ++ [])) (sym (append-nil x)) (subst (λ z. ReaderStandsFor e x z) (sym (append-nil marks)) h) }
 after (c ∷ y) x e marks h =
-    let k = after y (x ++ c ∷ []) (step e c).ear (marks ++ option_to_list (step e c).mark) (stands_on e x c marks h) in
+    let k = after y (x ++ c ∷ []) (reader_step e c).ear (marks ++ option_to_list (reader_step e c).mark) (stands_on e x c marks h) in
     record {
       ear = k.ear;
-      stands = subst (λ z. StandsFor k.ear z (marks ++ heard_from e (c ∷ y))) (append_assoc x (c ∷ []) y)
-          (subst (λ z. StandsFor k.ear ((x ++ c ∷ []) ++ y) z) (append_assoc marks (option_to_list (step e c).mark) (heard_from (step e c).ear y)) k.stands);
+      stands = subst (λ z. ReaderStandsFor k.ear z (marks ++ heard_from e (c ∷ y))) (append_assoc x (c ∷ []) y)
+          (subst (λ z. ReaderStandsFor k.ear ((x ++ c ∷ []) ++ y) z) (append_assoc marks (option_to_list (reader_step e c).mark) (heard_from (reader_step e c).ear y)) k.stands);
     }
 
 -- what is computed are the marks

@@ -1,19 +1,19 @@
 -- A pages file says one thing, or has one first wrong line.
 use Rattle.std.proofs.Common.{◌≡◌, ℕ, ◌+◌, ◌≤◌, ◌<◌, List, [], ◌∷◌, ◌++◌, length, refl, ap, sym, ◌∙◌, subst, append_assoc, arith, Option, Some, None, ◌⊎◌, inl, inr}
 use Rattle.std.specs.List.{flat_map}
-use Rattle.tap_entry.specs.Client.{Page}
-use Rattle.tap_entry.specs.PagesFile.{AreLinesOf, IsPassword, first_line, Told, Begins, IsFile, IsWrongLine, IsWrongLater, HasNoPageLine, HasNoFirstLine, most_pages}
+use Rattle.tap_entry.specs.Client.{PageToSend}
+use Rattle.tap_entry.specs.PagesFile.{AreLinesOf, IsPassword, first_line, FileContent, Begins, IsFile, IsWrongLine, IsWrongLater, HasNoPageLine, HasNoFirstLine, most_pages}
 use Rattle.tap_entry.specs.Signs.{BeginsPage, first_line_at}
 use Rattle.tap_entry.proofs.FirstLines.{first_found}
 use Rattle.tap_entry.proofs.PageLines.{one_page, page_shorter}
 
 -- the pages of two readings of the same lines
-data Compared (ps : List Page) (x : List ℕ) (qs : List Page) (y : List ℕ) : Type 0 where
+data Compared (ps : List PageToSend) (x : List ℕ) (qs : List PageToSend) (y : List ℕ) : Type 0 where
   same : ps ≡ qs → x ≡ y → Compared ps x qs y
-  fewer : (q : Page) (behind : List ℕ) → BeginsPage x q behind → length ps < length qs → Compared ps x qs y
-  more : (p : Page) (behind : List ℕ) → BeginsPage y p behind → length qs < length ps → Compared ps x qs y
+  fewer : (q : PageToSend) (behind : List ℕ) → BeginsPage x q behind → length ps < length qs → Compared ps x qs y
+  more : (p : PageToSend) (behind : List ℕ) → BeginsPage y p behind → length qs < length ps → Compared ps x qs y
 
-compared : (ps : List Page) (ls : List (List ℕ)) (x : List ℕ) (qs : List Page) (ms : List (List ℕ)) (y : List ℕ) → AreLinesOf ps ls → AreLinesOf qs ms
+compared : (ps : List PageToSend) (ls : List (List ℕ)) (x : List ℕ) (qs : List PageToSend) (ms : List (List ℕ)) (y : List ℕ) → AreLinesOf ps ls → AreLinesOf qs ms
     → flat_map (λ l. l) ls ++ x ≡ flat_map (λ l. l) ms ++ y → Compared ps x qs y
 compared [] (l ∷ ls) x qs ms y h k e = elim h [ ]
 compared (p ∷ ps) [] x qs ms y h k e = elim h [ ]
@@ -54,18 +54,18 @@ one_password p q x y h k e =
     (ap first_in w, ap second_in w)
 
 -- two readings of one file
-readings : (bytes : List ℕ) (a : Told) (x : List ℕ) (b : Told) (y : List ℕ) → Begins bytes a x → Begins bytes b y → (a.password ≡ b.password) × Compared a.pages x b.pages y
+readings : (bytes : List ℕ) (a : FileContent) (x : List ℕ) (b : FileContent) (y : List ℕ) → Begins bytes a x → Begins bytes b y → (a.password ≡ b.password) × Compared a.pages x b.pages y
 readings bytes a x b y h k =
     let w = one_password a.password b.password (flat_map (λ l. l) h.lines ++ x) (flat_map (λ l. l) k.lines ++ y) h.password k.password (sym h.form ∙ k.form) in
     (w.0, compared a.pages h.lines x b.pages k.lines y h.each k.each w.1)
 
-nothing_begins : (p : Page) (behind : List ℕ) → BeginsPage [] p behind → ⊥
+nothing_begins : (p : PageToSend) (behind : List ℕ) → BeginsPage [] p behind → ⊥
 nothing_begins p behind h = let a = page_shorter [] p behind h in omega (arith, a)
 
-same_told : (a b : Told) → a.password ≡ b.password → a.pages ≡ b.pages → a ≡ b
-same_told a b e f = ap (λ (p : Option (List ℕ)). record { password = p; pages = a.pages }) e ∙ ap (λ (ps : List Page). record { password = b.password; pages = ps }) f
+same_told : (a b : FileContent) → a.password ≡ b.password → a.pages ≡ b.pages → a ≡ b
+same_told a b e f = ap (λ (p : Option (List ℕ)). record { password = p; pages = a.pages }) e ∙ ap (λ (ps : List PageToSend). record { password = b.password; pages = ps }) f
 
-pub one_told : (bytes : List ℕ) (a b : Told) → IsFile bytes a → IsFile bytes b → a ≡ b
+pub one_told : (bytes : List ℕ) (a b : FileContent) → IsFile bytes a → IsFile bytes b → a ≡ b
 one_told bytes a b h k = let w = readings bytes a [] b [] h.whole k.whole in by_pages w.0 w.1
   where
     by_pages : a.password ≡ b.password → Compared a.pages [] b.pages [] → a ≡ b
@@ -74,11 +74,11 @@ one_told bytes a b h k = let w = readings bytes a [] b [] h.whole k.whole in by_
     by_pages e (more q behind s t) = absurd (nothing_begins q behind s)
 
 -- no further page stands where a line is wrong
-not_further : (n m : ℕ) (x : List ℕ) (p : Page) (behind : List ℕ) → (n ≡ most_pages) ⊎ HasNoPageLine x → m ≤ most_pages → BeginsPage x p behind → n < m → ⊥
+not_further : (n m : ℕ) (x : List ℕ) (p : PageToSend) (behind : List ℕ) → (n ≡ most_pages) ⊎ HasNoPageLine x → m ≤ most_pages → BeginsPage x p behind → n < m → ⊥
 not_further n m x p behind (inl e) h k l = omega (arith, e, h, l)
 not_further n m x p behind (inr e) h k l = e p k.line behind k.line_is k.form
 
-later : (bytes : List ℕ) (a : Told) (x : List ℕ) (n : ℕ) → Begins bytes a x → IsWrongLater bytes n → x ≡ [] → ⊥
+later : (bytes : List ℕ) (a : FileContent) (x : List ℕ) (n : ℕ) → Begins bytes a x → IsWrongLater bytes n → x ≡ [] → ⊥
 later bytes a x n h k e = let w = readings bytes a x k.told k.behind h k.before in by_pages w.1
   where
     by_pages : Compared a.pages x k.told.pages k.behind → ⊥
@@ -86,10 +86,10 @@ later bytes a x n h k e = let w = readings bytes a x k.told k.behind h k.before 
     by_pages (fewer q behind s t) = nothing_begins q behind (subst (λ z. BeginsPage z q behind) e s)
     by_pages (more q behind s t) = not_further (length k.told.pages) (length a.pages) k.behind q behind k.wrong h.few s t
 
-no_first : (bytes : List ℕ) (a : Told) (x : List ℕ) → Begins bytes a x → HasNoFirstLine bytes → ⊥
+no_first : (bytes : List ℕ) (a : FileContent) (x : List ℕ) → Begins bytes a x → HasNoFirstLine bytes → ⊥
 no_first bytes a x h n = n a.password (flat_map (λ l. l) h.lines ++ x) h.password h.form
 
-pub not_wrong : (bytes : List ℕ) (a : Told) (n : ℕ) → IsFile bytes a → IsWrongLine bytes n → ⊥
+pub not_wrong : (bytes : List ℕ) (a : FileContent) (n : ℕ) → IsFile bytes a → IsWrongLine bytes n → ⊥
 not_wrong bytes a n h (inl k) = no_first bytes a [] h.whole k.1
 not_wrong bytes a n h (inr k) = later bytes a [] n h.whole k refl
 

@@ -1,9 +1,9 @@
 -- The lines of a pages file.
 use Rattle.std.proofs.Common.{◌≡◌, ◌≢◌, ℕ, suc, zero, ◌<◌, ◌≤◌, ◌==◌, cond, Bool, true, false, List, [], ◌∷◌, ◌++◌, length, take, get_or, refl, ap, sym, ◌∙◌, subst, append_assoc, append-nil, arith, length-append}
 use Rattle.std.specs.List.{AllByRecursion, flat_map}
-use Rattle.tap_block.specs.Chars.{lf}
-use Rattle.tap_entry.specs.Client.{Page}
-use Rattle.tap_entry.specs.PagesFile.{IsLineOf, AreLinesOf, space}
+use Rattle.entry_line.specs.Chars.{lf, space}
+use Rattle.tap_entry.specs.Client.{PageToSend}
+use Rattle.tap_entry.specs.PagesFile.{IsLineOf, AreLinesOf}
 use Rattle.tap_entry.specs.Signs.{IsDigit, BeginsId, BeginsText, BeginsPage, PagesUpTo}
 use Rattle.tap_entry.proofs.Texts.{one_text, meant_small}
 
@@ -47,7 +47,7 @@ one_id (c ∷ id) behind (d ∷ other) more h k e =
     (rw (q, a) refl, r.1)
 
 -- the parts of a page's line
-pub page_id : (x : List ℕ) (page : Page) (behind : List ℕ) (h : BeginsPage x page behind) → BeginsId x page.id (h.line_is.characters ++ lf ∷ behind)
+pub page_id : (x : List ℕ) (page : PageToSend) (behind : List ℕ) (h : BeginsPage x page behind) → BeginsId x page.id (h.line_is.characters ++ lf ∷ behind)
 page_id x page behind h = record {
   size = h.line_is.fits.id_size;
   some = h.line_is.fits.id_some;
@@ -56,7 +56,7 @@ page_id x page behind h = record {
       ∙ ap (λ z. page.id ++ space ∷ z) (append_assoc h.line_is.characters (lf ∷ []) behind);
 }
 
-pub page_text : (x : List ℕ) (page : Page) (behind : List ℕ) (h : BeginsPage x page behind) → BeginsText (h.line_is.characters ++ lf ∷ behind) page.text behind
+pub page_text : (x : List ℕ) (page : PageToSend) (behind : List ℕ) (h : BeginsPage x page behind) → BeginsText (h.line_is.characters ++ lf ∷ behind) page.text behind
 page_text x page behind h = record { characters = h.line_is.characters; written_so = h.line_is.text; size = h.line_is.fits.text_size; form = refl }
 
 -- a page's line from its parts
@@ -79,14 +79,14 @@ page_of_parts x id rest text behind h k = record {
 }
 
 -- behind the id of a page no text begins
-pub no_text : (x id rest : List ℕ) → BeginsId x id rest → ((text behind : List ℕ) → BeginsText rest text behind → ⊥) → (page : Page) (behind : List ℕ) → BeginsPage x page behind → ⊥
+pub no_text : (x id rest : List ℕ) → BeginsId x id rest → ((text behind : List ℕ) → BeginsText rest text behind → ⊥) → (page : PageToSend) (behind : List ℕ) → BeginsPage x page behind → ⊥
 no_text x id rest h n page behind k =
     let p = page_id x page behind k in
     let r = one_id id rest page.id (k.line_is.characters ++ lf ∷ behind) h.digits p.digits (sym h.form ∙ p.form) in
     n page.text behind (subst (λ z. BeginsText z page.text behind) (sym r.1) (page_text x page behind k))
 
 -- a line has one page
-pub one_page : (x : List ℕ) (page : Page) (behind : List ℕ) (other : Page) (more : List ℕ) → BeginsPage x page behind → BeginsPage x other more → (page ≡ other) × (behind ≡ more)
+pub one_page : (x : List ℕ) (page : PageToSend) (behind : List ℕ) (other : PageToSend) (more : List ℕ) → BeginsPage x page behind → BeginsPage x other more → (page ≡ other) × (behind ≡ more)
 one_page x page behind other more h k =
     let p = page_id x page behind h in
     let q = page_id x other more k in
@@ -94,11 +94,11 @@ one_page x page behind other more h k =
     let t = one_text (h.line_is.characters ++ lf ∷ behind) page.text behind other.text more (page_text x page behind h) (subst (λ z. BeginsText z other.text more) (sym r.1) (page_text x other more k)) in
     (same_page page other r.0 t.0, t.1)
   where
-    same_page : (a b : Page) → a.id ≡ b.id → a.text ≡ b.text → a ≡ b
+    same_page : (a b : PageToSend) → a.id ≡ b.id → a.text ≡ b.text → a ≡ b
     same_page a b e f = ap (λ (i : List ℕ). record { id = i; text = a.text }) e ∙ ap (λ (t : List ℕ). record { id = b.id; text = t }) f
 
 -- the line of a page isn't empty
-pub page_shorter : (x : List ℕ) (page : Page) (behind : List ℕ) → BeginsPage x page behind → length behind < length x
+pub page_shorter : (x : List ℕ) (page : PageToSend) (behind : List ℕ) → BeginsPage x page behind → length behind < length x
 page_shorter x page behind h =
     let p = page_id x page behind h in
     let a = ap length p.form in
@@ -110,7 +110,7 @@ page_shorter x page behind h =
 pub lines_nil : (x : List ℕ) → PagesUpTo x [] x
 lines_nil x = record { lines = []; each = tt; few = omega arith; form = refl }
 
-lines_push : (pages : List Page) (lines : List (List ℕ)) (page : Page) (line : List ℕ) → AreLinesOf pages lines → IsLineOf page line → AreLinesOf (pages ++ page ∷ []) (lines ++ line ∷ [])
+lines_push : (pages : List PageToSend) (lines : List (List ℕ)) (page : PageToSend) (line : List ℕ) → AreLinesOf pages lines → IsLineOf page line → AreLinesOf (pages ++ page ∷ []) (lines ++ line ∷ [])
 lines_push [] [] page line h k = (k, tt)
 lines_push [] (l ∷ lines) page line h k = elim h [ ]
 lines_push (p ∷ pages) [] page line h k = elim h [ ]
@@ -120,7 +120,7 @@ flat_push : (lines : List (List ℕ)) (line : List ℕ) → flat_map (λ l. l) (
 flat_push [] line = append-nil line
 flat_push (l ∷ lines) line = ap (λ z. l ++ z) (flat_push lines line) ∙ sym (append_assoc l (flat_map (λ l. l) lines) line)
 
-pub lines_more : (x : List ℕ) (pages : List Page) (rest : List ℕ) (page : Page) (behind : List ℕ) → PagesUpTo x pages rest → BeginsPage rest page behind → length pages ≢ 1000 → PagesUpTo x (pages ++ page ∷ []) behind
+pub lines_more : (x : List ℕ) (pages : List PageToSend) (rest : List ℕ) (page : PageToSend) (behind : List ℕ) → PagesUpTo x pages rest → BeginsPage rest page behind → length pages ≢ 1000 → PagesUpTo x (pages ++ page ∷ []) behind
 lines_more x pages rest page behind h k n = record {
   lines = h.lines ++ k.line ∷ [];
   each = lines_push pages h.lines page k.line h.each k.line_is;
@@ -129,7 +129,7 @@ lines_more x pages rest page behind h k n = record {
 }
 
 -- none begins there
-pub no_line : (x : List ℕ) → ((page : Page) (behind : List ℕ) → BeginsPage x page behind → ⊥) → (page : Page) (line behind : List ℕ) → IsLineOf page line → x ≡ line ++ behind → ⊥
+pub no_line : (x : List ℕ) → ((page : PageToSend) (behind : List ℕ) → BeginsPage x page behind → ⊥) → (page : PageToSend) (line behind : List ℕ) → IsLineOf page line → x ≡ line ++ behind → ⊥
 no_line x n page line behind h e = n page behind (record { line = line; line_is = h; form = e })
 
 -- what a test for an end says

@@ -1,19 +1,20 @@
 -- Worked rows.
 use Rattle.std.proofs.Common.{◌≡◌, ℕ, ◌<◌, List, [], ◌∷◌, ◌++◌, refl, ap, arith, None, inl, inr}
 use Rattle.std.specs.Prelude.{codes}
-use Rattle.tap_block.specs.Chars.{stx, etx, cr, esc}
+use Rattle.entry_line.specs.Chars.{cr}
+use Rattle.tap_block.specs.Chars.{stx, etx, esc}
 use Rattle.tap_entry.specs.declared.hearing.Mark.{Mark}
 use Rattle.tap_entry.specs.declared.hearing.Mark.TheVariants.{Id, Ack, Nak, Rs, End, Go}
 use Rattle.tap_entry.specs.declared.outcomes.Outcome.{Outcome}
 use Rattle.tap_entry.specs.declared.outcomes.Outcome.TheVariants.{Sent, Abandoned, TriesSpent, Disconnected, NoLogon}
-use Rattle.tap_entry.specs.Client.{Page, content, block_at, naks, AreSinceAck, Decides, IsUndecided, IsCalling, Client, answered, said_for, good_bye}
-use Rattle.tap_entry.specs.Ears.{marks_of}
+use Rattle.tap_entry.specs.Client.{PageToSend, content, block_at, naks, AreSinceAck, Decides, IsUndecided, IsCalling, Client, answered, said_for, good_bye}
+use Rattle.tap_entry.specs.MarkReaders.{marks_of}
 use Rattle.tap_entry.proofs.Counts.{calling_push, undecided_push, since_none, one_since}
 
-abbrev hello : Page
+abbrev hello : PageToSend
 hello = record { id = codes "5551234"; text = codes "HELLO" }
 
-abbrev x : Page
+abbrev x : PageToSend
 x = record { id = codes "999"; text = codes "X" }
 
 hello_block : block_at (content hello) 0 ≡ stx ∷ codes "5551234" ++ cr ∷ [] ++ codes "HELLO" ++ cr ∷ etx ∷ codes "2?<" ++ cr ∷ []

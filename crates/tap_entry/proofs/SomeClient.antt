@@ -2,12 +2,12 @@
 use Rattle.std.proofs.Common.{◌≡◌, ◌≢◌, ℕ, ◌+◌, List, [], ◌∷◌, ◌++◌, refl, ap, sym, ◌∙◌, subst, append_assoc, append-nil, Option, ◌⊎◌, inl, inr}
 use Rattle.std.specs.List.{AllByRecursion}
 use Rattle.std.proofs.lemmas.Bool.Decides.{eqb_tells}
-use Rattle.tap_block.specs.Chars.{cr}
+use Rattle.entry_line.specs.Chars.{cr}
 use Rattle.tap_entry.specs.declared.hearing.Mark.{Mark}
 use Rattle.tap_entry.specs.declared.hearing.Mark.TheVariants.{Id, Ack, Nak, Rs, End, Go}
 use Rattle.tap_entry.specs.declared.outcomes.Outcome.{Outcome}
 use Rattle.tap_entry.specs.declared.outcomes.Outcome.TheVariants.{Sent, Abandoned, TriesSpent, Disconnected, NoLogon}
-use Rattle.tap_entry.specs.Client.{Page, content, count_of, acks, naks, AreSinceAck, Follows, Sends, DecidesLogon, LogsOn, Client, silent, turned_away, still_calling, answered, said_for, logons, all_are, good_bye}
+use Rattle.tap_entry.specs.Client.{PageToSend, content, count_of, acks, naks, AreSinceAck, Follows, Sends, DecidesLogon, LogsOn, Client, silent, turned_away, still_calling, answered, said_for, logons, all_are, good_bye}
 use Rattle.tap_entry.proofs.Counts.{since_none, since_ack, since_other, one_since}
 use Rattle.tap_entry.proofs.FirstMarks.{NoneIn, Found, find, nothing_first}
 use Rattle.tap_entry.proofs.OneClient.{DecidesPage}
@@ -47,14 +47,14 @@ record Some (on : List Outcome → List ℕ → Type 0) : Type 0 where
   said : List ℕ
   holds : on outcomes said
 
-some_follows : (outcome : Outcome) (pages : List Page) (on : List Outcome → List ℕ → Type 0) → Some on → Some (Follows outcome pages on)
+some_follows : (outcome : Outcome) (pages : List PageToSend) (on : List Outcome → List ℕ → Type 0) → Some on → Some (Follows outcome pages on)
 some_follows Sent pages on h = record { outcomes = h.outcomes; said = h.said; holds = h.holds }
 some_follows Abandoned pages on h = record { outcomes = h.outcomes; said = h.said; holds = h.holds }
 some_follows NoLogon pages on h = record { outcomes = h.outcomes; said = h.said; holds = h.holds }
 some_follows TriesSpent pages on h = record { outcomes = all_are Disconnected pages; said = good_bye; holds = (refl, refl) }
 some_follows Disconnected pages on h = record { outcomes = all_are Disconnected pages; said = []; holds = (refl, refl) }
 
-some_sends : (pages : List Page) (marks : List Mark) → Some (Sends pages marks)
+some_sends : (pages : List PageToSend) (marks : List Mark) → Some (Sends pages marks)
 some_sends [] marks = record { outcomes = []; said = good_bye; holds = (refl, refl) }
 some_sends (page ∷ pages) marks = by_first (λ rest. some_sends pages rest) (find (DecidesPage (count_of (content page))) (page_test (count_of (content page))) [] marks (λ f m r e d. nothing_first f m r e))
   where
@@ -98,7 +98,7 @@ logon_test since Nak = elim (eqb_tells (naks since) 2) [
   | inr h ↦ inr h.1
 ]
 
-some_logs_on : (mark : Mark) (pages : List Page) (rest : List Mark) → Some (LogsOn mark pages rest)
+some_logs_on : (mark : Mark) (pages : List PageToSend) (rest : List Mark) → Some (LogsOn mark pages rest)
 some_logs_on Go pages rest = let w = some_sends pages rest in record { outcomes = w.outcomes; said = w.said; holds = w.holds }
 some_logs_on Id pages rest = record { outcomes = all_are NoLogon pages; said = []; holds = (refl, refl) }
 some_logs_on Ack pages rest = record { outcomes = all_are NoLogon pages; said = []; holds = (refl, refl) }
@@ -130,7 +130,7 @@ no_id : (marks : List Mark) → AllByRecursion (λ m. (m ≢ Id) × (m ≢ End))
 no_id [] h = tt
 no_id (m ∷ marks) h = (h.0.0, no_id marks h.1)
 
-some_for : (password : Option (List ℕ)) (pages : List Page) (marks : List Mark) → FirstCall marks → Some (Client password pages marks)
+some_for : (password : Option (List ℕ)) (pages : List PageToSend) (marks : List Mark) → FirstCall marks → Some (Client password pages marks)
 some_for password pages marks (none h) =
     record { outcomes = all_are NoLogon pages; said = cr ∷ []; holds = silent (record { no_id = no_id marks h; outcomes_are = refl; said_is = refl }) }
 some_for password pages marks (an_end before rest h e) =
@@ -163,5 +163,5 @@ some_for password pages marks (an_id before rest h e) = by_first (find DecidesLo
           });
         }
 
-pub some_client : (password : Option (List ℕ)) (pages : List Page) (marks : List Mark) → (outcomes : List Outcome) × ((said : List ℕ) × Client password pages marks outcomes said)
+pub some_client : (password : Option (List ℕ)) (pages : List PageToSend) (marks : List Mark) → (outcomes : List Outcome) × ((said : List ℕ) × Client password pages marks outcomes said)
 some_client password pages marks = let w = some_for password pages marks (first_call marks) in (w.outcomes, (w.said, w.holds))

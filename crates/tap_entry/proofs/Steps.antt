@@ -9,23 +9,23 @@ use Rattle.tap_entry.specs.declared.outcomes.Outcome.TheVariants.{Sent, TriesSpe
 use Rattle.tap_entry.specs.declared.logon.CallStep.TheVariants.{Wait, SayLogon, Refused}
 use Rattle.tap_entry.specs.declared.transfer.SendStep.TheVariants.{Wait as WaitOn, Again, NextBlock, Done, Closed}
 use Rattle.tap_entry.specs.Marks.{AreMarks}
-use Rattle.tap_entry.specs.Ears.{Ear, StandsFor}
+use Rattle.tap_entry.specs.MarkReaders.{MarkReader, ReaderStandsFor}
 use Rattle.tap_entry.specs.Held.{Caller, Sender}
-use Rattle.tap_entry.specs.States.{CallsSo, CallsOn, IsRefused, call_by, SendingFor, SendsOn, send_by}
+use Rattle.tap_entry.specs.States.{CallsSo, CallsOn, IsClientRefused, call_by, SendingFor, SendsOn, send_by}
 use Rattle.tap_entry.specs.Client.{acks, naks, is_nak, DecidesLogon, IsUndecided, Decides, AreSinceAck, logons, logon_line, count_of, block_at, is_last_at, said_for, said_after}
 use Rattle.tap_entry.proofs.Counts.{naks_push, acks_push, calling_push, undecided_push, all_push, logons_push, said_push, said_step, since_none, since_ack, since_other, one_since}
 
-pub marks_heard : (e : Ear) (x : List ℕ) (marks : List Mark) → StandsFor e x marks → AreMarks x marks
+pub marks_heard : (e : MarkReader) (x : List ℕ) (marks : List Mark) → ReaderStandsFor e x marks → AreMarks x marks
 marks_heard e x marks h = record { pieces = h.pieces; rest = h.rest; cuts = h.cuts; marks_are = h.marks_are }
 
 -- before the first Id a mark changes nothing but Id and End
-waits_silent : (c : Caller) (x : List ℕ) (marks : List Mark) (m : Mark) (said : List ℕ) → StandsFor c.ear x (marks ++ m ∷ []) → c.refusals ≡ None → CallsSo c.password marks None said
+waits_silent : (c : Caller) (x : List ℕ) (marks : List Mark) (m : Mark) (said : List ℕ) → ReaderStandsFor c.ear x (marks ++ m ∷ []) → c.refusals ≡ None → CallsSo c.password marks None said
     → m ≢ Id → m ≢ End → CallsOn c.password x (marks ++ m ∷ []) said (Wait c)
 waits_silent c x marks m said h e k ni ne =
     (record { hears = h; calls = subst (λ r. CallsSo c.password (marks ++ m ∷ []) r said) (sym e) (all_push _ marks m k.0 (ni, ne), k.1) }, refl)
 
 -- after it a mark that decides nothing and is no Nak changes nothing
-waits_calling : (c : Caller) (n : ℕ) (x : List ℕ) (marks : List Mark) (m : Mark) (said : List ℕ) → StandsFor c.ear x (marks ++ m ∷ []) → c.refusals ≡ Some n → CallsSo c.password marks (Some n) said
+waits_calling : (c : Caller) (n : ℕ) (x : List ℕ) (marks : List Mark) (m : Mark) (said : List ℕ) → ReaderStandsFor c.ear x (marks ++ m ∷ []) → c.refusals ≡ Some n → CallsSo c.password marks (Some n) said
     → is_nak m ≡ false → ((since : List Mark) → DecidesLogon since m → ⊥) → CallsOn c.password x (marks ++ m ∷ []) said (Wait c)
 waits_calling c n x marks m said h e (before, (since, k)) flat d =
     let q : logons c.password (since ++ m ∷ []) ≡ logons c.password since = logons_push c.password since m ∙ ap (λ b. logons c.password since ++ cond b (logon_line c.password) []) flat ∙ append-nil (logons c.password since) in
@@ -39,12 +39,12 @@ waits_calling c n x marks m said h e (before, (since, k)) flat d =
     )
 
 -- an End, at any place
-ended : (c : Caller) (r : Option ℕ) (marks : List Mark) (said : List ℕ) → CallsSo c.password marks r said → IsRefused c.password (marks ++ End ∷ []) said
+ended : (c : Caller) (r : Option ℕ) (marks : List Mark) (said : List ℕ) → CallsSo c.password marks r said → IsClientRefused c.password (marks ++ End ∷ []) said
 ended c None marks said k = inl (marks, (refl, k.0, k.1))
 ended c (Some n) marks said (before, (since, k)) =
     inr (before, (since, (End, (ap (λ z. z ++ End ∷ []) k.0 ∙ append_assoc before (Id ∷ since) (End ∷ []), k.1, k.2, tt, (λ e. cc), k.5))))
 
-pub call_stands : (c : Caller) (r : Option ℕ) (x : List ℕ) (marks : List Mark) (mark : Option Mark) (said : List ℕ) → StandsFor c.ear x (marks ++ option_to_list mark) → c.refusals ≡ r → CallsSo c.password marks r said
+pub call_stands : (c : Caller) (r : Option ℕ) (x : List ℕ) (marks : List Mark) (mark : Option Mark) (said : List ℕ) → ReaderStandsFor c.ear x (marks ++ option_to_list mark) → c.refusals ≡ r → CallsSo c.password marks r said
     → CallsOn c.password x (marks ++ option_to_list mark) said (call_by c r mark)
 call_stands c None x marks None said h e k = (record { hears = h; calls = subst (λ r. CallsSo c.password (marks ++ []) r said) (sym e) (subst (λ z. CallsSo c.password z None said) (sym (append-nil marks)) k) }, refl)
 call_stands c (Some n) x marks None said h e k = (record { hears = h; calls = subst (λ r. CallsSo c.password (marks ++ []) r said) (sym e) (subst (λ z. CallsSo c.password z (Some n) said) (sym (append-nil marks)) k) }, refl)
@@ -96,7 +96,7 @@ call_stands c (Some n) x marks (Some Nak) said h e (before, (since, k)) = by_tri
 
 -- a mark that changes nothing for a page
 idles : (s : Sender) (x : List ℕ) (past since : List Mark) (m : Mark) → IsUndecided (count_of s.content) since → s.acks ≡ acks since
-    → (last : List Mark) → AreSinceAck since last → s.naks ≡ naks last → StandsFor s.ear x (past ++ (since ++ m ∷ []))
+    → (last : List Mark) → AreSinceAck since last → s.naks ≡ naks last → ReaderStandsFor s.ear x (past ++ (since ++ m ∷ []))
     → ((o : Outcome) → Decides (count_of s.content) since m o → ⊥) → acks (m ∷ []) ≡ 0 → naks (m ∷ []) ≡ 0 → said_step s.content (0 + acks since) m ≡ [] → SendsOn s.content x past since (Some m) (WaitOn s)
 idles s x past since m u e last l k hears d a n q = (
   record {
@@ -117,7 +117,7 @@ more_said content since m block e =
 
 pub send_stands : (s : Sender) (x : List ℕ) (past since : List Mark) (mark : Option Mark) → IsUndecided (count_of s.content) since → s.acks ≡ acks since
     → (last : List Mark) → AreSinceAck since last → s.naks ≡ naks last → s.naks ≤ 2
-    → StandsFor s.ear x (past ++ (since ++ option_to_list mark)) → SendsOn s.content x past since mark (send_by s mark)
+    → ReaderStandsFor s.ear x (past ++ (since ++ option_to_list mark)) → SendsOn s.content x past since mark (send_by s mark)
 send_stands s x past since None u a last l n few hears = (
   record {
     hears = hears;
@@ -177,18 +177,18 @@ send_stands s x past since (Some Nak) u a last l n few hears = by_tries (nat_le 
 
 pub send_goes : (s : Sender) (x : List ℕ) (past since : List Mark) (mark : Option Mark) → IsUndecided (count_of s.content) since → s.acks ≡ acks since
     → (last : List Mark) → AreSinceAck since last → s.naks ≡ naks last → s.naks ≤ 2
-    → StandsFor s.ear x ((past ++ since) ++ option_to_list mark) → SendsOn s.content x past since mark (send_by s mark)
+    → ReaderStandsFor s.ear x ((past ++ since) ++ option_to_list mark) → SendsOn s.content x past since mark (send_by s mark)
 send_goes s x past since mark u a last l n few hears =
-    send_stands s x past since mark u a last l n few (subst (λ z. StandsFor s.ear x z) (append_assoc past since (option_to_list mark)) hears)
+    send_stands s x past since mark u a last l n few (subst (λ z. ReaderStandsFor s.ear x z) (append_assoc past since (option_to_list mark)) hears)
 
 none_in_nothing : (front : List Mark) (mark : Mark) (rest : List Mark) → [] ≡ front ++ mark ∷ rest → ⊥
 none_in_nothing [] mark rest e = cc
 none_in_nothing (f ∷ front) mark rest e = cc
 
 -- a page begins
-pub starts : (e : Ear) (x : List ℕ) (past : List Mark) (content : List ℕ) → StandsFor e x past → SendingFor (record { ear = e; content = content; acks = 0; naks = 0 }) x past []
+pub starts : (e : MarkReader) (x : List ℕ) (past : List Mark) (content : List ℕ) → ReaderStandsFor e x past → SendingFor (record { ear = e; content = content; acks = 0; naks = 0 }) x past []
 starts e x past content h = record {
-  hears = subst (λ z. StandsFor e x z) (sym (append-nil past)) h;
+  hears = subst (λ z. ReaderStandsFor e x z) (sym (append-nil past)) h;
   undecided = λ front mark rest o q d. none_in_nothing front mark rest q;
   acks_are = refl;
   last = [];

@@ -2,7 +2,8 @@
 -- "leaving".
 use Rattle.std.specs.Prelude.{◌≡◌, ◌≢◌, ℕ, ◌+◌, ◌*◌, ◌/◌, ◌≤◌, ◌<◌, ◌==◌, Bool, true, false, if◌then◌else◌, List, [], ◌∷◌, ◌++◌, length, take, drop, map, count_by, codes, Option, Some, None, ◌⊎◌}
 use Rattle.std.specs.List.{AllByRecursion, flat_map}
-use Rattle.tap_block.specs.Chars.{eot, cr, esc}
+use Rattle.entry_line.specs.Chars.{cr}
+use Rattle.tap_block.specs.Chars.{eot, esc}
 use Rattle.tap_block.specs.Fields.{escaped, block_of}
 use Rattle.tap_block.specs.declared.ends.End.{End as BlockEnd}
 use Rattle.tap_block.specs.declared.ends.End.TheVariants.{Etx as LastBlock, Us as FieldGoesOn}
@@ -12,12 +13,12 @@ use Rattle.tap_entry.specs.declared.outcomes.Outcome.{Outcome}
 use Rattle.tap_entry.specs.declared.outcomes.Outcome.TheVariants.{Sent, Abandoned, TriesSpent, Disconnected, NoLogon}
 
 -- a page to be sent: an id and a text
-pub record Page : Type 0 where
+pub record PageToSend : Type 0 where
   pub id : List ℕ
   pub text : List ℕ
 
 -- its two fields, each with its CR
-abbrev pub content : Page → List ℕ
+abbrev pub content : PageToSend → List ℕ
 content p = p.id ++ cr ∷ (escaped p.text ++ cr ∷ [])
 
 -- how many bodies: each has 250 characters, the last one has as many or fewer
@@ -90,24 +91,24 @@ abbrev pub good_bye : List ℕ
 good_bye = eot ∷ cr ∷ []
 
 -- the same outcome for every page
-abbrev pub all_are : Outcome → List Page → List Outcome
+abbrev pub all_are : Outcome → List PageToSend → List Outcome
 all_are outcome pages = map (λ _. outcome) pages
 
 -- what follows a page's outcome: after TriesSpent the client says good-bye and no further page is sent, after Disconnected nothing is
 -- said, and else the further pages are sent
-abbrev pub Follows : Outcome → List Page → (List Outcome → List ℕ → Type 0) → List Outcome → List ℕ → Type 0
+abbrev pub Follows : Outcome → List PageToSend → (List Outcome → List ℕ → Type 0) → List Outcome → List ℕ → Type 0
 Follows TriesSpent pages on outcomes said = (outcomes ≡ all_are Disconnected pages) × (said ≡ good_bye)
 Follows Disconnected pages on outcomes said = (outcomes ≡ all_are Disconnected pages) × (said ≡ [])
 Follows other pages on outcomes said = on outcomes said
 
 -- the marks from a page's start are heard, and none decides it: it and the further pages are Disconnected
-pub record StaysOpen (x : List ℕ) (pages : List Page) (marks : List Mark) (outcomes : List Outcome) (said : List ℕ) : Type 0 where
+pub record StaysOpen (x : List ℕ) (pages : List PageToSend) (marks : List Mark) (outcomes : List Outcome) (said : List ℕ) : Type 0 where
   pub undecided : IsUndecided (count_of x) marks
   pub outcomes_are : outcomes ≡ all_are Disconnected pages
   pub said_is : said ≡ said_for x marks
 
 -- one of the marks decides the page
-pub record IsDecided (x : List ℕ) (pages : List Page) (on : List Mark → List Outcome → List ℕ → Type 0) (marks : List Mark) (outcomes : List Outcome) (said : List ℕ) : Type 0 where
+pub record IsDecided (x : List ℕ) (pages : List PageToSend) (on : List Mark → List Outcome → List ℕ → Type 0) (marks : List Mark) (outcomes : List Outcome) (said : List ℕ) : Type 0 where
   pub since : List Mark
   pub mark : Mark
   pub rest : List Mark
@@ -122,7 +123,7 @@ pub record IsDecided (x : List ℕ) (pages : List Page) (on : List Mark → List
   pub follows : Follows outcome pages (on rest) others more
 
 -- After Go: the outcomes of the pages, and what is said for them; after the last page good-bye.
-abbrev pub Sends : List Page → List Mark → List Outcome → List ℕ → Type 0
+abbrev pub Sends : List PageToSend → List Mark → List Outcome → List ℕ → Type 0
 Sends [] marks outcomes said = (outcomes ≡ []) × (said ≡ good_bye)
 Sends (page ∷ pages) marks outcomes said =
     StaysOpen (content page) (page ∷ pages) marks outcomes said
@@ -153,18 +154,18 @@ abbrev pub logons : Option (List ℕ) → List Mark → List ℕ
 logons password since = logon_line password ++ flat_map (λ m. if is_nak m then logon_line password else []) since
 
 -- the logon was decided by this mark: Go alone logs on
-abbrev pub LogsOn : Mark → List Page → List Mark → List Outcome → List ℕ → Type 0
+abbrev pub LogsOn : Mark → List PageToSend → List Mark → List Outcome → List ℕ → Type 0
 LogsOn Go pages rest outcomes said = Sends pages rest outcomes said
 LogsOn other pages rest outcomes said = (outcomes ≡ all_are NoLogon pages) × (said ≡ [])
 
 -- Before the first Id nothing but CR is said.
-pub record StaysSilent (pages : List Page) (marks : List Mark) (outcomes : List Outcome) (said : List ℕ) : Type 0 where
+pub record StaysSilent (pages : List PageToSend) (marks : List Mark) (outcomes : List Outcome) (said : List ℕ) : Type 0 where
   pub no_id : AllByRecursion (λ m. m ≢ Id) marks
   pub outcomes_are : outcomes ≡ all_are NoLogon pages
   pub said_is : said ≡ cr ∷ []
 
 -- An End before the first Id refuses.
-pub record IsTurnedAway (pages : List Page) (marks : List Mark) (outcomes : List Outcome) (said : List ℕ) : Type 0 where
+pub record IsTurnedAway (pages : List PageToSend) (marks : List Mark) (outcomes : List Outcome) (said : List ℕ) : Type 0 where
   pub before : List Mark
   pub rest : List Mark
   pub marks_are : marks ≡ before ++ End ∷ rest
@@ -173,7 +174,7 @@ pub record IsTurnedAway (pages : List Page) (marks : List Mark) (outcomes : List
   pub said_is : said ≡ cr ∷ []
 
 -- The logon was said and nothing decides it.
-pub record StaysCalling (password : Option (List ℕ)) (pages : List Page) (marks : List Mark) (outcomes : List Outcome) (said : List ℕ) : Type 0 where
+pub record StaysCalling (password : Option (List ℕ)) (pages : List PageToSend) (marks : List Mark) (outcomes : List Outcome) (said : List ℕ) : Type 0 where
   pub before : List Mark
   pub since : List Mark
   pub marks_are : marks ≡ before ++ Id ∷ since
@@ -183,7 +184,7 @@ pub record StaysCalling (password : Option (List ℕ)) (pages : List Page) (mark
   pub said_is : said ≡ cr ∷ logons password since
 
 -- A mark decides it.
-pub record IsAnswered (password : Option (List ℕ)) (pages : List Page) (marks : List Mark) (outcomes : List Outcome) (said : List ℕ) : Type 0 where
+pub record IsAnswered (password : Option (List ℕ)) (pages : List PageToSend) (marks : List Mark) (outcomes : List Outcome) (said : List ℕ) : Type 0 where
   pub before : List Mark
   pub since : List Mark
   pub mark : Mark
@@ -197,14 +198,14 @@ pub record IsAnswered (password : Option (List ℕ)) (pages : List Page) (marks 
   pub logs_on : LogsOn mark pages rest outcomes more
 
 -- The client: for these marks its pages have these outcomes, and this is said.
-pub data Client (password : Option (List ℕ)) (pages : List Page) (marks : List Mark) (outcomes : List Outcome) (said : List ℕ) : Type 0 where
+pub data Client (password : Option (List ℕ)) (pages : List PageToSend) (marks : List Mark) (outcomes : List Outcome) (said : List ℕ) : Type 0 where
   silent : StaysSilent pages marks outcomes said → Client password pages marks outcomes said
   turned_away : IsTurnedAway pages marks outcomes said → Client password pages marks outcomes said
   still_calling : StaysCalling password pages marks outcomes said → Client password pages marks outcomes said
   answered : IsAnswered password pages marks outcomes said → Client password pages marks outcomes said
 
 -- a page that can be sent: an id of 1 to 10 digits, and at most 400 characters up to 0x7E
-pub record IsPage (p : Page) : Type 0 where
+pub record IsPage (p : PageToSend) : Type 0 where
   pub id_size : length p.id ≤ 10
   pub id_some : 0 < length p.id
   pub id_digits : AllByRecursion (λ c. (48 ≤ c) × (c ≤ 57)) p.id

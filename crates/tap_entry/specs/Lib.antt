@@ -1,9 +1,9 @@
-pub mod Marks
-pub mod Ears
 pub mod Client
 pub mod Held
+pub mod MarkReaders
+pub mod Marks
+pub mod PagesFile
+pub mod Seen
+pub mod Signs
 pub mod Sound
 pub mod States
-pub mod PagesFile
-pub mod Signs
-pub mod Seen

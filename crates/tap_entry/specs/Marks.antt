@@ -1,8 +1,10 @@
 -- The marks in what is heard: docs/profile.md, "marks".
+use Rattle.tap_block.specs.Reading.{without_lf}
 use Rattle.std.specs.Prelude.{◌≡◌, ℕ, ◌-◌, ◌==◌, Bool, not, if◌then◌else◌, nat_eq, List, [], ◌∷◌, ◌++◌, length, take, drop, filter, codes, Option, Some, None, ◌⊎◌}
 use Rattle.std.specs.List.{AllByRecursion, filter_map, flat_map}
 use lib.Pointwise.{pointwise}
-use Rattle.tap_block.specs.Chars.{eot, lf, cr, esc, characters}
+use Rattle.entry_line.specs.Chars.{lf, cr}
+use Rattle.tap_block.specs.Chars.{eot, esc, characters}
 use Rattle.tap_entry.specs.declared.hearing.Mark.{Mark}
 use Rattle.tap_entry.specs.declared.hearing.Mark.TheVariants.{Id, Ack, Nak, Rs, End, Go}
 
@@ -58,10 +60,6 @@ mark_of p =
     else if same p (esc ∷ eot ∷ cr ∷ []) then Some End
     else if same p (esc ∷ codes "[p" ++ cr ∷ []) then Some Go
     else None
-
--- LF is dropped
-abbrev pub without_lf : List ℕ → List ℕ
-without_lf x = filter (λ c. not (c == lf)) x
 
 -- These are the marks of the characters.
 pub record AreMarks (x : List ℕ) (marks : List Mark) : Type 0 where

@@ -1,22 +1,18 @@
 -- A pages file: docs/profile.md, "pages file".
 use Rattle.std.specs.Prelude.{◌≡◌, ◌≢◌, ℕ, ◌+◌, ◌-◌, ◌*◌, ◌≤◌, ◌<◌, nat_le, ◌&&◌, if◌then◌else◌, List, [], ◌∷◌, ◌++◌, length, map, codes, Option, Some, None, ◌⊎◌}
 use Rattle.std.specs.List.{AllByRecursion, flat_map}
-use Rattle.tap_block.specs.Chars.{lf, cr}
+use Rattle.entry_line.specs.Chars.{lf, cr, space}
 use Rattle.tap_entry.specs.declared.faults.PagesFault.{PagesFault}
 use Rattle.tap_entry.specs.declared.faults.PagesFault.TheVariants.{Long, Line, Memory}
-use Rattle.tap_entry.specs.Client.{Page, IsPage, password_text}
-
--- a space, which ends an id
-abbrev pub space : ℕ
-space = 32
+use Rattle.tap_entry.specs.Client.{PageToSend, IsPage, password_text}
 
 -- a backslash, which begins an escape
 abbrev pub backslash : ℕ
 backslash = 92
 
 -- a file has at most so many bytes, and so many pages
-abbrev pub most_bytes : ℕ
-most_bytes = 1048576
+abbrev pub most_pages_bytes : ℕ
+most_pages_bytes = 1048576
 
 abbrev pub most_pages : ℕ
 most_pages = 1000
@@ -51,37 +47,37 @@ IsSign a_return = Unit {0}
 IsSign (hexadecimal a b m n) = (digit_of a ≡ Some m) × (digit_of b ≡ Some n) × (16 * m + n ≤ 126)
 
 -- how it is written
-abbrev pub written : Sign → List ℕ
-written (plain c) = c ∷ []
-written a_backslash = backslash ∷ backslash ∷ []
-written a_line_feed = backslash ∷ codes "n"
-written a_return = backslash ∷ codes "r"
-written (hexadecimal a b m n) = backslash ∷ codes "x" ++ a ∷ b ∷ []
+abbrev pub sign_written : Sign → List ℕ
+sign_written (plain c) = c ∷ []
+sign_written a_backslash = backslash ∷ backslash ∷ []
+sign_written a_line_feed = backslash ∷ codes "n"
+sign_written a_return = backslash ∷ codes "r"
+sign_written (hexadecimal a b m n) = backslash ∷ codes "x" ++ a ∷ b ∷ []
 
 -- the character that is meant
-abbrev pub meant : Sign → ℕ
-meant (plain c) = c
-meant a_backslash = backslash
-meant a_line_feed = lf
-meant a_return = cr
-meant (hexadecimal a b m n) = 16 * m + n
+abbrev pub char_meant : Sign → ℕ
+char_meant (plain c) = c
+char_meant a_backslash = backslash
+char_meant a_line_feed = lf
+char_meant a_return = cr
+char_meant (hexadecimal a b m n) = 16 * m + n
 
 -- The file writes the text so.
 pub record IsWritten (text characters : List ℕ) : Type 0 where
   pub signs : List Sign
   pub each : AllByRecursion IsSign signs
-  pub form : characters ≡ flat_map written signs
-  pub means : text ≡ map meant signs
+  pub form : characters ≡ flat_map sign_written signs
+  pub means : text ≡ map char_meant signs
 
 -- The line of a page: its id, a space, its text as the file writes it, and LF.
-pub record IsLineOf (page : Page) (line : List ℕ) : Type 0 where
+pub record IsLineOf (page : PageToSend) (line : List ℕ) : Type 0 where
   pub characters : List ℕ
   pub form : line ≡ page.id ++ space ∷ (characters ++ lf ∷ [])
   pub text : IsWritten page.text characters
   pub fits : IsPage page
 
 -- the lines of pages
-abbrev pub AreLinesOf : List Page → List (List ℕ) → Type 0
+abbrev pub AreLinesOf : List PageToSend → List (List ℕ) → Type 0
 AreLinesOf [] [] = Unit {0}
 AreLinesOf (page ∷ pages) (line ∷ lines) = IsLineOf page line × AreLinesOf pages lines
 AreLinesOf pages lines = ⊥
@@ -96,22 +92,22 @@ abbrev pub first_line : Option (List ℕ) → List ℕ
 first_line password = codes "PG1" ++ (password_text password ++ lf ∷ [])
 
 -- what a file says: a password or none, and pages
-pub record Told : Type 0 where
+pub record FileContent : Type 0 where
   pub password : Option (List ℕ)
-  pub pages : List Page
+  pub pages : List PageToSend
 
 -- A password is right, each page can be sent, and there are at most 1,000.
-pub record IsTold (told : Told) : Type 0 where
+pub record IsRightFile (told : FileContent) : Type 0 where
   pub password : IsPassword told.password
   pub each : AllByRecursion IsPage told.pages
   pub few : length told.pages ≤ most_pages
 
 -- what stands for a page where there is none
-abbrev pub no_page : Page
+abbrev pub no_page : PageToSend
 no_page = record { id = []; text = [] }
 
 -- The bytes begin with the lines of a file that says this, and these bytes are behind them.
-pub record Begins (bytes : List ℕ) (told : Told) (behind : List ℕ) : Type 0 where
+pub record Begins (bytes : List ℕ) (told : FileContent) (behind : List ℕ) : Type 0 where
   pub lines : List (List ℕ)
   pub password : IsPassword told.password
   pub each : AreLinesOf told.pages lines
@@ -119,8 +115,8 @@ pub record Begins (bytes : List ℕ) (told : Told) (behind : List ℕ) : Type 0 
   pub form : bytes ≡ first_line told.password ++ (flat_map (λ line. line) lines ++ behind)
 
 -- The bytes are a file that says this.
-pub record IsFile (bytes : List ℕ) (told : Told) : Type 0 where
-  pub short : length bytes ≤ most_bytes
+pub record IsFile (bytes : List ℕ) (told : FileContent) : Type 0 where
+  pub short : length bytes ≤ most_pages_bytes
   pub whole : Begins bytes told []
 
 -- no first line begins there
@@ -129,11 +125,11 @@ HasNoFirstLine bytes = (password : Option (List ℕ)) (behind : List ℕ) → Is
 
 -- no line of a page begins there
 abbrev pub HasNoPageLine : List ℕ → Type 0
-HasNoPageLine bytes = (page : Page) (line behind : List ℕ) → IsLineOf page line → bytes ≡ line ++ behind → ⊥
+HasNoPageLine bytes = (page : PageToSend) (line behind : List ℕ) → IsLineOf page line → bytes ≡ line ++ behind → ⊥
 
 -- The lines before this one are right and it isn't: it is no line of a page, or it is one page too many.
 pub record IsWrongLater (bytes : List ℕ) (n : ℕ) : Type 0 where
-  pub told : Told
+  pub told : FileContent
   pub behind : List ℕ
   pub before : Begins bytes told behind
   pub number : n ≡ length told.pages + 2
@@ -145,7 +141,7 @@ abbrev pub IsWrongLine : List ℕ → ℕ → Type 0
 IsWrongLine bytes n = ((n ≡ 1) × HasNoFirstLine bytes) ⊎ IsWrongLater bytes n
 
 -- The bytes are refused so. Want of memory may come with any bytes.
-abbrev pub IsRefused : List ℕ → PagesFault → Type 0
-IsRefused bytes Long = most_bytes < length bytes
-IsRefused bytes (Line n) = (length bytes ≤ most_bytes) × IsWrongLine bytes n
-IsRefused bytes Memory = Unit {0}
+abbrev pub IsFileRefused : List ℕ → PagesFault → Type 0
+IsFileRefused bytes Long = most_pages_bytes < length bytes
+IsFileRefused bytes (Line n) = (length bytes ≤ most_pages_bytes) × IsWrongLine bytes n
+IsFileRefused bytes Memory = Unit {0}

@@ -1,9 +1,9 @@
 -- What stands at the front of the rest of a pages file, computed.
 use Rattle.std.specs.Prelude.{◌≡◌, ◌≢◌, ℕ, ◌+◌, ◌*◌, ◌≤◌, ◌==◌, nat_le, Bool, ◌&&◌, if◌then◌else◌, List, [], ◌∷◌, ◌++◌, length, map, Option, Some, None, ◌⊎◌}
 use Rattle.std.specs.List.{AllByRecursion, list_all, flat_map}
-use Rattle.tap_block.specs.Chars.{lf, cr}
-use Rattle.tap_entry.specs.Client.{Page}
-use Rattle.tap_entry.specs.PagesFile.{Sign, IsSign, written, meant, IsWritten, IsLineOf, AreLinesOf, IsPassword, first_line, digit_of, space, backslash, most_pages, HasNoPageLine}
+use Rattle.entry_line.specs.Chars.{lf, cr, space}
+use Rattle.tap_entry.specs.Client.{PageToSend}
+use Rattle.tap_entry.specs.PagesFile.{Sign, IsSign, sign_written, char_meant, IsWritten, IsLineOf, AreLinesOf, IsPassword, first_line, digit_of, backslash, most_pages, HasNoPageLine}
 use Rattle.tap_entry.specs.declared.faults.PagesFault.{PagesFault}
 use Rattle.tap_entry.specs.declared.faults.PagesFault.TheVariants.{Line}
 
@@ -41,8 +41,8 @@ pub record TextUpTo (x text rest : List ℕ) : Type 0 where
   pub size : length text ≤ 400
   pub signs : List Sign
   pub each : AllByRecursion IsSign signs
-  pub form : x ≡ flat_map written signs ++ rest
-  pub means : text ≡ map meant signs
+  pub form : x ≡ flat_map sign_written signs ++ rest
+  pub means : text ≡ map char_meant signs
 
 -- a text of at most 400 characters, LF, and what is behind it
 pub record BeginsText (x text behind : List ℕ) : Type 0 where
@@ -63,13 +63,13 @@ pub record BeginsId (x id behind : List ℕ) : Type 0 where
   pub form : x ≡ id ++ space ∷ behind
 
 -- the line of a page, and what is behind it
-pub record BeginsPage (x : List ℕ) (page : Page) (behind : List ℕ) : Type 0 where
+pub record BeginsPage (x : List ℕ) (page : PageToSend) (behind : List ℕ) : Type 0 where
   pub line : List ℕ
   pub line_is : IsLineOf page line
   pub form : x ≡ line ++ behind
 
 -- lines of pages up to a place
-pub record PagesUpTo (x : List ℕ) (pages : List Page) (rest : List ℕ) : Type 0 where
+pub record PagesUpTo (x : List ℕ) (pages : List PageToSend) (rest : List ℕ) : Type 0 where
   pub lines : List (List ℕ)
   pub each : AreLinesOf pages lines
   pub few : length pages ≤ most_pages
@@ -77,7 +77,7 @@ pub record PagesUpTo (x : List ℕ) (pages : List Page) (rest : List ℕ) : Type
 
 -- the lines of pages end at a place where something stands, and this is the fault
 pub record StopsAt (x : List ℕ) (fault : PagesFault) : Type 0 where
-  pub pages : List Page
+  pub pages : List PageToSend
   pub rest : List ℕ
   pub before : PagesUpTo x pages rest
   pub fault_is : fault ≡ Line (length pages + 2)

@@ -16,7 +16,7 @@ use Rattle.tap_entry.specs.declared.logon.CallStep.TheVariants.{Wait, SayLogon, 
 use Rattle.tap_entry.specs.declared.goodbye.LeaveStep.{LeaveStep}
 use Rattle.tap_entry.specs.declared.goodbye.LeaveStep.TheVariants.{Wait as WaitOut, Gone}
 use Rattle.tap_entry.specs.Marks.{AreMarks}
-use Rattle.tap_entry.specs.Ears.{StandsFor}
+use Rattle.tap_entry.specs.MarkReaders.{ReaderStandsFor}
 use Rattle.tap_entry.specs.Held.{Caller, Sender}
 use Rattle.tap_entry.specs.Client.{IsCalling, DecidesLogon, naks, acks, logons, logon_line, AreSinceAck, IsUndecided, Decides, count_of, block_at, is_last_at, said_for}
 
@@ -29,7 +29,7 @@ CallsSo password marks (Some n) said =
 
 -- The client stands for the characters heard, whose marks are these; behind its CR it has said this.
 pub record CallingFor (c : Caller) (x : List ℕ) (marks : List Mark) (said : List ℕ) : Type 0 where
-  pub hears : StandsFor c.ear x marks
+  pub hears : ReaderStandsFor c.ear x marks
   pub calls : CallsSo c.password marks c.refusals said
 
 -- the logon is decided by the last of the marks
@@ -42,8 +42,8 @@ pub record IsLoggedOn (password : Option (List ℕ)) (marks : List Mark) (said :
   pub said_is : said ≡ logons password since
 
 -- it is decided against the client: by an End before the first Id, or by a mark after it
-abbrev pub IsRefused : Option (List ℕ) → List Mark → List ℕ → Type 0
-IsRefused password marks said =
+abbrev pub IsClientRefused : Option (List ℕ) → List Mark → List ℕ → Type 0
+IsClientRefused password marks said =
     ((before : List Mark) × ((marks ≡ before ++ End ∷ []) × AllByRecursion (λ m. (m ≢ Id) × (m ≢ End)) before × (said ≡ [])))
     ⊎ ((before : List Mark) × ((since : List Mark) × ((mark : Mark) × ((marks ≡ before ++ Id ∷ (since ++ mark ∷ [])) × AllByRecursion (λ m. (m ≢ Id) × (m ≢ End)) before
     × IsCalling since × DecidesLogon since mark × (mark ≢ Go) × (said ≡ logons password since)))))
@@ -52,8 +52,8 @@ IsRefused password marks said =
 abbrev pub CallsOn : Option (List ℕ) → List ℕ → List Mark → List ℕ → CallStep → Type 0
 CallsOn password x marks said (Wait next) = CallingFor next x marks said × (next.password ≡ password)
 CallsOn password x marks said (SayLogon next) = CallingFor next x marks (said ++ logon_line password) × (next.password ≡ password)
-CallsOn password x marks said (GoesOn next) = StandsFor next x marks × IsLoggedOn password marks said
-CallsOn password x marks said Refused = AreMarks x marks × IsRefused password marks said
+CallsOn password x marks said (GoesOn next) = ReaderStandsFor next x marks × IsLoggedOn password marks said
+CallsOn password x marks said Refused = AreMarks x marks × IsClientRefused password marks said
 
 -- one byte more, which completes a mark or none
 abbrev pub CallsFurther : Caller → List ℕ → List Mark → List ℕ → ℕ → CallStep → Type 0
@@ -69,7 +69,7 @@ call_by c n mark = Wait c
 
 -- The sender stands for the characters heard: the marks before the page's start and those since, which don't decide it.
 pub record SendingFor (s : Sender) (x : List ℕ) (past since : List Mark) : Type 0 where
-  pub hears : StandsFor s.ear x (past ++ since)
+  pub hears : ReaderStandsFor s.ear x (past ++ since)
   pub undecided : IsUndecided (count_of s.content) since
   pub acks_are : s.acks ≡ acks since
   pub last : List Mark
@@ -77,7 +77,7 @@ pub record SendingFor (s : Sender) (x : List ℕ) (past since : List Mark) : Typ
   pub naks_are : s.naks ≡ naks last
 
 -- the mark decides the page, and no earlier one did
-pub record IsDone (content : List ℕ) (since : List Mark) (further : Option Mark) (outcome : Outcome) : Type 0 where
+pub record IsPageDecided (content : List ℕ) (since : List Mark) (further : Option Mark) (outcome : Outcome) : Type 0 where
   pub mark : Mark
   pub is_mark : further ≡ Some mark
   pub decides : Decides (count_of content) since mark outcome
@@ -90,8 +90,8 @@ SendsOn content x past since further (Again next) = SendingFor next x past (sinc
     × (said_for content (since ++ option_to_list further) ≡ said_for content since ++ block_at content next.acks) × (further ≡ Some Nak)
 SendsOn content x past since further (NextBlock next) = SendingFor next x past (since ++ option_to_list further) × (next.content ≡ content)
     × (said_for content (since ++ option_to_list further) ≡ said_for content since ++ block_at content next.acks) × (further ≡ Some Ack)
-SendsOn content x past since further (Done next outcome) = StandsFor next x (past ++ (since ++ option_to_list further)) × IsDone content since further outcome × ((outcome ≡ Sent) ⊎ (outcome ≡ Abandoned))
-SendsOn content x past since further (Closed outcome) = AreMarks x (past ++ (since ++ option_to_list further)) × IsDone content since further outcome × ((outcome ≡ TriesSpent) ⊎ (outcome ≡ Disconnected))
+SendsOn content x past since further (Done next outcome) = ReaderStandsFor next x (past ++ (since ++ option_to_list further)) × IsPageDecided content since further outcome × ((outcome ≡ Sent) ⊎ (outcome ≡ Abandoned))
+SendsOn content x past since further (Closed outcome) = AreMarks x (past ++ (since ++ option_to_list further)) × IsPageDecided content since further outcome × ((outcome ≡ TriesSpent) ⊎ (outcome ≡ Disconnected))
 
 -- one byte more, which completes a mark or none
 abbrev pub SendsFurther : Sender → List ℕ → List Mark → List Mark → ℕ → SendStep → Type 0
@@ -107,7 +107,7 @@ send_by s mark = WaitOn s
 
 -- a step while the client leaves: it is gone exactly at an End
 abbrev pub LeavesOn : List ℕ → List Mark → Option Mark → LeaveStep → Type 0
-LeavesOn x marks further (WaitOut next) = StandsFor next x (marks ++ option_to_list further) × (further ≢ Some End)
+LeavesOn x marks further (WaitOut next) = ReaderStandsFor next x (marks ++ option_to_list further) × (further ≢ Some End)
 LeavesOn x marks further Gone = AreMarks x (marks ++ option_to_list further) × (further ≡ Some End)
 
 -- one byte more, which completes a mark or none

@@ -1,14 +1,14 @@
 //! The pages file: docs/profile.md, "pages file".
 
 ghost use Rattle.std.specs.Prelude.{◌≡◌, ◌≢◌, ◌<◌, ◌≤◌, ◌+◌, ◌⊎◌, ℕ, List, [], length, slice_index_or, IfOk, IfErr};
-ghost use Rattle.tap_entry.specs.Client.{Page, IsPage};
-ghost use Rattle.tap_entry.specs.PagesFile.{IsFile, IsRefused, IsPassword, no_page, most_pages};
+ghost use Rattle.tap_entry.specs.Client.{PageToSend, IsPage};
+ghost use Rattle.tap_entry.specs.PagesFile.{IsFile, IsFileRefused, IsPassword, no_page, most_pages};
 ghost use Rattle.tap_entry.specs.Seen.{seen_pages};
 ghost use Rattle.tap_entry.specs.Signs.{PagesUpTo, StopsAt};
 
 use crate::faults::PagesFault;
 use crate::lines::{PageLine, first_line, page_line};
-use crate::logon::PASSWORD_SIZE;
+use entry_line::characters::PASSWORD_SIZE;
 use std::alloc::Global;
 use std::marker::Model;
 
@@ -29,14 +29,14 @@ pub struct Pages {
 }
 
 impl Model for Pages {
-    ghost use Rattle.tap_entry.specs.PagesFile.{Told, IsTold};
+    ghost use Rattle.tap_entry.specs.PagesFile.{FileContent, IsRightFile};
     ghost use Rattle.tap_entry.specs.Seen.{seen_pages};
 
-    ghost Value = { Told };
+    ghost Value = { FileContent };
 
     ghost view = { λ s. record { password = s.password; pages = seen_pages s.pages.items } };
 
-    ghost invariant = { λ s. IsTold (record { password = s.password; pages = seen_pages s.pages.items }) };
+    ghost invariant = { λ s. IsRightFile (record { password = s.password; pages = seen_pages s.pages.items }) };
 }
 
 impl Pages {
@@ -44,7 +44,7 @@ impl Pages {
     /// the first that isn't. Memory may come in place of any answer.
     pub fn read(alloc: Global, bytes: &[u8]) -> Result<Pages, PagesFault>
         ensures file { IfOk result (λ pages. IsFile bytes.now pages) }
-        ensures refused { IfErr result (λ fault. IsRefused bytes.now fault) }
+        ensures refused { IfErr result (λ fault. IsFileRefused bytes.now fault) }
     {
         if bytes.len() > MOST_BYTES {
             return Err(PagesFault::Long);

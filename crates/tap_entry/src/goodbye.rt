@@ -1,8 +1,8 @@
 //! The client after its last page: docs/profile.md, "leaving".
 
 ghost use Rattle.std.specs.Prelude.{◌≡◌, ℕ, List};
-ghost use Rattle.tap_block.specs.Chars.{char_of};
-ghost use Rattle.tap_entry.specs.Ears.{StandsFor};
+ghost use Rattle.entry_line.specs.Chars.{char_of};
+ghost use Rattle.tap_entry.specs.MarkReaders.{ReaderStandsFor};
 ghost use Rattle.tap_entry.specs.States.{LeavesFurther};
 ghost use Rattle.tap_entry.specs.declared.hearing.Mark.{Mark};
 
@@ -16,9 +16,9 @@ pub struct Leaving {
 }
 
 impl Model for Leaving {
-    ghost use Rattle.tap_entry.specs.Ears.{Ear};
+    ghost use Rattle.tap_entry.specs.MarkReaders.{MarkReader};
 
-    ghost Value = { Ear };
+    ghost Value = { MarkReader };
 
     ghost view = { λ s. s.listener };
 
@@ -44,7 +44,7 @@ impl Leaving {
 
     /// Takes a byte that was heard.
     pub fn feed(self, byte: u8) -> LeaveStep
-        ensures { (x : List ℕ) (marks : List Mark) → StandsFor self x marks → LeavesFurther x marks (char_of byte) result }
+        ensures { (x : List ℕ) (marks : List Mark) → ReaderStandsFor self x marks → LeavesFurther x marks (char_of byte) result }
     {
         let mut client = self;
         match client.listener.feed(byte) {

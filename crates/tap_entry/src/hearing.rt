@@ -2,18 +2,14 @@
 
 ghost use Rattle.std.specs.Prelude.{◌≡◌, ◌<◌, ℕ, List, [], ◌∷◌, ◌++◌};
 ghost use Rattle.std.specs.Option.{option_to_list};
-ghost use Rattle.tap_block.specs.Chars.{char_of};
-ghost use Rattle.tap_entry.specs.Ears.{Ear, StandsFor, step, line_mark, seen_by, push_within};
+ghost use Rattle.entry_line.specs.Chars.{char_of};
+ghost use Rattle.tap_entry.specs.MarkReaders.{MarkReader, ReaderStandsFor, reader_step, line_mark, seen_by};
 ghost use Rattle.tap_entry.specs.declared.hearing.Mark.{Mark};
 
 use arrayvec::ArrayVec;
+use entry_line::characters::{CR, LF};
+use entry_line::kept::push_within;
 use std::marker::Model;
-
-/// Line feed, which is dropped.
-const LF: u8 = 0x0A;
-
-/// Carriage return, which ends a line.
-const CR: u8 = 0x0D;
 
 /// A byte stands for its remainder by this number, its low seven bits.
 const CHARACTERS: u8 = 0x80;
@@ -69,9 +65,9 @@ pub struct Listener {
 }
 
 impl Model for Listener {
-    ghost use Rattle.tap_entry.specs.Ears.{Ear};
+    ghost use Rattle.tap_entry.specs.MarkReaders.{MarkReader};
 
-    ghost Value = { Ear };
+    ghost Value = { MarkReader };
 
     ghost view = { λ s. record { line = s.line.items; seen = s.seen } };
 
@@ -81,7 +77,7 @@ impl Model for Listener {
 impl Listener {
     /// A listener that has heard nothing.
     pub fn new() -> Listener
-        ensures { StandsFor result [] [] }
+        ensures { ReaderStandsFor result [] [] }
     {
         Listener {
             line: ArrayVec::new(),
@@ -91,7 +87,7 @@ impl Listener {
 
     /// Takes a byte, and answers the mark that it completes. None where it completes none.
     pub fn feed(&mut self, byte: u8) -> Option<Mark>
-        ensures { (x : List ℕ) (marks : List Mark) → StandsFor self.old x marks → StandsFor self.new (x ++ char_of byte ∷ []) (marks ++ option_to_list result) }
+        ensures { (x : List ℕ) (marks : List Mark) → ReaderStandsFor self.old x marks → ReaderStandsFor self.new (x ++ char_of byte ∷ []) (marks ++ option_to_list result) }
     {
         self.step(byte % CHARACTERS)
     }
@@ -99,8 +95,8 @@ impl Listener {
     /// Takes a character, and answers the mark that it completes.
     fn step(&mut self, c: u8) -> Option<Mark>
         requires { c < CHARACTERS }
-        ensures ear { self.new ≡ (step self.old c).ear }
-        ensures mark { result ≡ (step self.old c).mark }
+        ensures ear { self.new ≡ (reader_step self.old c).ear }
+        ensures mark { result ≡ (reader_step self.old c).mark }
     {
         if c == LF {
             return None;
@@ -114,9 +110,7 @@ impl Listener {
             self.begin();
             return Some(Mark::Id);
         }
-        if !self.line.is_full() {
-            self.line.push(c);
-        }
+        push_within(&mut self.line, c);
         self.seen = self.seen.after(c);
         None
     }

@@ -2,17 +2,14 @@
 
 ghost use Rattle.std.specs.Prelude.{◌≡◌, ◌≤◌, ℕ, List, length, Option, Some, None, IfSome, MatchOption};
 ghost use Rattle.std.specs.List.{list_all};
-ghost use Rattle.tap_entry.specs.Client.{Page};
+ghost use Rattle.tap_entry.specs.Client.{PageToSend};
 ghost use Rattle.tap_entry.specs.Seen.{seen_page};
 ghost use Rattle.tap_entry.specs.Signs.{BeginsId, BeginsPage, is_visible, first_line_at, password_at};
 
-use crate::logon::PASSWORD_SIZE;
-use crate::signs::{LF, text_line};
-use crate::transfer::{LONGEST_TEXT, MOST_DIGITS};
+use crate::signs::text_line;
+use crate::transfer::LONGEST_TEXT;
 use arrayvec::ArrayVec;
-
-/// A space, which ends an id.
-const SPACE: u8 = b' ';
+use entry_line::characters::{LF, MOST_DIGITS, PASSWORD_SIZE, SPACE};
 
 /// A page that was read.
 #[derive(Drop)]
@@ -83,7 +80,7 @@ fn kept(id: &[u8]) -> ArrayVec<u8, MOST_DIGITS>
 
 /// The page of a line, and what is behind the line. None where no line of a page stands there.
 pub(crate) fn page_line(x: &[u8]) -> Option<(PageLine, &[u8])>
-    ensures { MatchOption result ((page : Page) (behind : List ℕ) → BeginsPage x.now page behind → ⊥) (λ r. BeginsPage x.now (seen_page r.0) r.1.now) }
+    ensures { MatchOption result ((page : PageToSend) (behind : List ℕ) → BeginsPage x.now page behind → ⊥) (λ r. BeginsPage x.now (seen_page r.0) r.1.now) }
 {
     let Some((id, rest)) = id_front(x) else {
         return None;

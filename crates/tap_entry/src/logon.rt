@@ -1,26 +1,19 @@
 //! The client before its logon is decided: docs/profile.md, "calling".
 
 ghost use Rattle.std.specs.Prelude.{◌≡◌, ◌≤◌, ℕ, List, [], ◌++◌, drop, Some};
-ghost use Rattle.tap_block.specs.Chars.{char_of};
+ghost use Rattle.entry_line.specs.Chars.{char_of};
 ghost use Rattle.tap_entry.specs.Client.{logon_line};
 ghost use Rattle.tap_entry.specs.States.{CallingFor, CallsFurther, call_by};
 ghost use Rattle.tap_entry.specs.declared.hearing.Mark.{Mark};
 
 use crate::hearing::{Listener, Mark};
 use crate::transfer::LoggedOn;
+use entry_line::characters::{CR, PASSWORD_SIZE};
 use std::marker::Model;
-
-/// Escape, which begins a logon line.
-const ESC: u8 = 0x1B;
-
-/// Carriage return, which ends it.
-const CR: u8 = 0x0D;
+use tap_block::control::ESC;
 
 /// The logon line is refused at most this many times before the client is refused with it.
 const MOST_REFUSALS: u8 = 2;
-
-/// The characters of a password.
-pub const PASSWORD_SIZE: usize = 6;
 
 /// The characters of a logon line without a password: `ESC PG1` and CR.
 const SHORTEST_LOGON: usize = 5;

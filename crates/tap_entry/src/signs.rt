@@ -1,18 +1,13 @@
 //! Texts as a pages file writes them: docs/profile.md, "pages file".
 
 ghost use Rattle.std.specs.Prelude.{◌≡◌, ◌<◌, ℕ, List, ◌∷◌, length, Some, None, IfSome, MatchOption};
-ghost use Rattle.tap_block.specs.Chars.{lf};
+ghost use Rattle.entry_line.specs.Chars.{lf};
 ghost use Rattle.tap_entry.specs.PagesFile.{digit_of};
 ghost use Rattle.tap_entry.specs.Signs.{sign_at, escape_at, hexadecimal_at, BeginsText};
 
 use crate::transfer::LONGEST_TEXT;
 use arrayvec::ArrayVec;
-
-/// Line feed, which ends a line.
-pub(crate) const LF: u8 = 0x0A;
-
-/// Carriage return, which `\r` stands for.
-const CR: u8 = 0x0D;
+use entry_line::characters::{CR, LF};
 
 /// The highest character of a text.
 const HIGHEST: u8 = 0x7E;

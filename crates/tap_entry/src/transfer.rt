@@ -2,10 +2,11 @@
 
 ghost use Rattle.std.specs.Prelude.{◌≡◌, ◌≤◌, ℕ, ◌+◌, List, [], ◌∷◌, ◌++◌, length};
 ghost use Rattle.std.specs.List.{AllByRecursion};
-ghost use Rattle.tap_block.specs.Chars.{IsChar, char_of};
+ghost use Rattle.entry_line.specs.Chars.{char_of};
+ghost use Rattle.tap_block.specs.Chars.{IsChar};
 ghost use Rattle.tap_block.specs.Reading.{IsBody};
 ghost use Rattle.tap_entry.specs.Client.{IsPage, content, body_at, end_at, block_at, is_last_at};
-ghost use Rattle.tap_entry.specs.Ears.{StandsFor};
+ghost use Rattle.tap_entry.specs.MarkReaders.{ReaderStandsFor};
 ghost use Rattle.tap_entry.specs.States.{SendingFor, SendsFurther, send_by};
 ghost use Rattle.tap_entry.specs.declared.hearing.Mark.{Mark};
 ghost use Rattle.wires.specs.Written.{Puts};
@@ -14,6 +15,7 @@ use crate::goodbye::Leaving;
 use crate::hearing::{Listener, Mark};
 use crate::outcomes::Outcome;
 use arrayvec::ArrayVec;
+use entry_line::characters::MOST_DIGITS;
 use std::marker::Model;
 use tap_block::{End, LONGEST_BODY, escape_into, put_block};
 use wires::Failed;
@@ -21,9 +23,6 @@ use wires::sink::Sink;
 
 /// Carriage return, which ends each field of a content.
 const CR: u8 = 0x0D;
-
-/// The most digits of an id.
-pub const MOST_DIGITS: usize = 10;
 
 /// The most characters of a text.
 pub const LONGEST_TEXT: usize = 400;
@@ -44,9 +43,9 @@ pub struct LoggedOn {
 }
 
 impl Model for LoggedOn {
-    ghost use Rattle.tap_entry.specs.Ears.{Ear};
+    ghost use Rattle.tap_entry.specs.MarkReaders.{MarkReader};
 
-    ghost Value = { Ear };
+    ghost Value = { MarkReader };
 
     ghost view = { λ s. s.listener };
 
@@ -65,7 +64,7 @@ impl LoggedOn {
     /// most 0x7E.
     pub fn start(self, id: &[u8], text: &[u8]) -> Sending
         requires page { IsPage (record { id = id.now; text = text.now }) }
-        ensures stands { (x : List ℕ) (past : List Mark) → StandsFor self x past → SendingFor result x past [] }
+        ensures stands { (x : List ℕ) (past : List Mark) → ReaderStandsFor self x past → SendingFor result x past [] }
         ensures held { result ≡ record { ear = self; content = content (record { id = id.now; text = text.now }); acks = 0; naks = 0 } }
     {
         let mut field = [0; LONGEST_FIELD];

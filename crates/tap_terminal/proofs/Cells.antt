@@ -4,10 +4,10 @@ use Rattle.page_pool.proofs.Lists.{in_use-append}
 use Rattle.page_pool.specs.Cells.{cells_of}
 use Rattle.page_pool.specs.Pool.{Pool, cells, in_use}
 use Rattle.page_text.specs.Page.{Page}
-use Rattle.tap_terminal.specs.Desk.{Gains}
+use Rattle.tap_terminal.specs.State.{GainsIfAny}
 
 -- they stay
-pub cells_gain : (old new : Pool) (gained : Option Page) → Gains old new gained → cells new ≡ cells old
+pub cells_gain : (old new : Pool) (gained : Option Page) → GainsIfAny old new gained → cells new ≡ cells old
 cells_gain old new None h = ap cells h
 cells_gain old new (Some page) h =
     let one : in_use new.live ≡ in_use old.live + cells_of h.entry.page = (let e = in_use-append old.live (h.entry ∷ []) in omega (arith, e, ap in_use h.at_end)) in

@@ -7,7 +7,7 @@ use Rattle.std.proofs.lemmas.List.{map-append, take_all}
 use Rattle.page_text.specs.Page.{Page}
 use Rattle.page_pool.specs.Pool.{Pool}
 use Rattle.tap_block.specs.declared.items.Item.{Item}
-use Rattle.tap_block.specs.Brief.{Held, StandsFor, ReadsOn, answer_of, BodyIs}
+use Rattle.tap_block.specs.Brief.{ScannerState, ScannerStandsFor, ReadsOn, answer_of, BodyIs}
 use Rattle.tap_block.specs.Reading.{Entry, empty_line, logon, wrong_line, a_block, a_bye, BeforeLogon}
 use Rattle.tap_terminal.specs.declared.answers.Answer.{Answer}
 use Rattle.tap_terminal.specs.declared.answers.Answer.TheVariants.{Nothing, End}
@@ -16,21 +16,21 @@ use Rattle.tap_terminal.specs.declared.terminal.Stage.{Stage}
 use Rattle.tap_terminal.specs.declared.terminal.Stage.TheVariants.{Open, Ended, Forced}
 use Rattle.tap_terminal.specs.Reports.{counter_of, counts, added}
 use Rattle.subscribers.specs.Directory.{Directory}
-use Rattle.tap_terminal.specs.Session.{Course, Told, Session, start, decide, tell, has_end, has_wrong_end, is_end, is_wrong, answers_of, pages_of, report_of, IsSession}
-use Rattle.tap_terminal.specs.Desk.{Desk, course_at, course_of, sum_up, IsOpenAt, IsOver, StandsAt, Stands, HearsOn, IsJudged, Keeps, said, is_open, is_forced, stage_after}
+use Rattle.tap_terminal.specs.Session.{Course, ItemDecided, Session, start, decide, tell, has_end, has_wrong_end, is_end, is_wrong, answers_of, pages_of, report_of, IsSession}
+use Rattle.tap_terminal.specs.State.{TerminalState, course_at, course_of, sum_up, IsOpenAt, IsOver, StandsAt, Stands, HearsOn, IsItemJudged, KeepsSession, said, is_open, is_forced, stage_after}
 use Rattle.tap_terminal.proofs.Reports.{counts-push}
 use Rattle.tap_terminal.proofs.Verdicts.{item_said}
 use Rattle.tap_terminal.proofs.Sessions.{tell-append_open, course_at-append, has_end-append, has_wrong_end-append, no_wrong_end, settled, short_settled, cut_off, over_by_end, over_by_length, session_from}
 
 -- a session that is over, at its stage
-over_at : (st : Stage) (password : Option (List ℕ)) (directory : Directory) (spare : ℕ) (t : Desk) (x : List ℕ) (session : Session) (left : ℕ)
+over_at : (st : Stage) (password : Option (List ℕ)) (directory : Directory) (spare : ℕ) (t : TerminalState) (x : List ℕ) (session : Session) (left : ℕ)
     → is_open st ≡ false → IsOver password directory spare x session → StandsAt st password directory spare t x session left
 over_at Open password directory spare t x session left h k = absurd cc
 over_at Ended password directory spare t x session left h k = k
 over_at Forced password directory spare t x session left h k = k
 
 -- a closed stage is that of a session that is over
-at_over : (st : Stage) (password : Option (List ℕ)) (directory : Directory) (spare : ℕ) (t : Desk) (x : List ℕ) (session : Session) (left : ℕ)
+at_over : (st : Stage) (password : Option (List ℕ)) (directory : Directory) (spare : ℕ) (t : TerminalState) (x : List ℕ) (session : Session) (left : ℕ)
     → is_open st ≡ false → StandsAt st password directory spare t x session left → IsOver password directory spare x session
 at_over Open password directory spare t x session left h k = absurd cc
 at_over Ended password directory spare t x session left h k = k
@@ -42,7 +42,7 @@ closed_stage st (inl h) = ap is_open h
 closed_stage st (inr h) = ap is_open h
 
 -- once over, a character changes nothing
-pub closed_on : (password : Option (List ℕ)) (directory : Directory) (spare : ℕ) (t : Desk) (x : List ℕ) (c : ℕ) (session : Session) (pool : Pool)
+pub closed_on : (password : Option (List ℕ)) (directory : Directory) (spare : ℕ) (t : TerminalState) (x : List ℕ) (c : ℕ) (session : Session) (pool : Pool)
     → is_open t.stage ≡ false → Stands password directory spare t x session pool.spare
     → HearsOn password directory spare t x c session Nothing pool pool
 closed_on password directory spare t x c session pool h k = record {
@@ -57,7 +57,7 @@ closed_on password directory spare t x c session pool h k = record {
   longer y = subst (λ z. IsSession password directory spare z session) (sym (append_assoc x (c ∷ []) y)) (at_over t.stage password directory spare t x session pool.spare h k.at_stage (c ∷ y))
 
 -- what an open terminal stands for
-open_of : (password : Option (List ℕ)) (directory : Directory) (spare : ℕ) (t : Desk) (x : List ℕ) (session : Session) (left : ℕ)
+open_of : (password : Option (List ℕ)) (directory : Directory) (spare : ℕ) (t : TerminalState) (x : List ℕ) (session : Session) (left : ℕ)
     → t.stage ≡ Open → Stands password directory spare t x session left → IsOpenAt password directory spare t x session left
 open_of password directory spare t x session left h k = subst (λ st. StandsAt st password directory spare t x session left) h k.at_stage
 
@@ -67,7 +67,7 @@ or_true true = refl
 or_true false = refl
 
 -- the millionth character
-pub full_on : (password : Option (List ℕ)) (directory : Directory) (spare : ℕ) (t new : Desk) (x : List ℕ) (c : ℕ) (session : Session) (pool : Pool)
+pub full_on : (password : Option (List ℕ)) (directory : Directory) (spare : ℕ) (t new : TerminalState) (x : List ℕ) (c : ℕ) (session : Session) (pool : Pool)
     → t.stage ≡ Open → t.heard ≡ 999999 → new.stage ≡ Forced → new.report ≡ t.report → Stands password directory spare t x session pool.spare
     → HearsOn password directory spare new x c session End pool pool
 full_on password directory spare t new x c session pool h e f r k =
@@ -88,10 +88,10 @@ full_on password directory spare t new x c session pool h e f r k =
     }
 
 -- a character that completes nothing
-pub quiet_on : (password : Option (List ℕ)) (directory : Directory) (spare : ℕ) (t new : Desk) (x : List ℕ) (c : ℕ) (session : Session) (pool : Pool)
+pub quiet_on : (password : Option (List ℕ)) (directory : Directory) (spare : ℕ) (t new : TerminalState) (x : List ℕ) (c : ℕ) (session : Session) (pool : Pool)
     → t.stage ≡ Open → t.heard < 999999 → new.heard ≡ t.heard + 1 → new.joined ≡ t.joined → new.wrong ≡ t.wrong → new.report ≡ t.report → new.stage ≡ Open
     → new.scanner.password ≡ t.scanner.password
-    → ((items : List Entry) → StandsFor BeforeLogon t.scanner x items → ReadsOn BeforeLogon new.scanner x items c None)
+    → ((items : List Entry) → ScannerStandsFor BeforeLogon t.scanner x items → ReadsOn BeforeLogon new.scanner x items c None)
     → Stands password directory spare t x session pool.spare
     → HearsOn password directory spare new x c session Nothing pool pool
 quiet_on password directory spare t new x c session pool h few heard joined wrong report stage same reads k =
@@ -123,20 +123,20 @@ quiet_on password directory spare t new x c session pool h few heard joined wron
     pair e f = cc
 
     nothing : (further : Option Entry) → ◌≡◌ {A = Option Item} None (option_map answer_of further) → (items : List Entry)
-        → StandsFor BeforeLogon new.scanner (x ++ c ∷ []) (items ++ option_to_list further) → StandsFor BeforeLogon new.scanner (x ++ c ∷ []) items
-    nothing None e items s = subst (λ z. StandsFor BeforeLogon new.scanner (x ++ c ∷ []) z) (append-nil items) s
+        → ScannerStandsFor BeforeLogon new.scanner (x ++ c ∷ []) (items ++ option_to_list further) → ScannerStandsFor BeforeLogon new.scanner (x ++ c ∷ []) items
+    nothing None e items s = subst (λ z. ScannerStandsFor BeforeLogon new.scanner (x ++ c ∷ []) z) (append-nil items) s
     nothing (Some entry) e items s = absurd cc
 
 -- what is told of one item
 told_one : (directory : Directory) (s : Course) (e : Entry) → tell directory s (e ∷ []) ≡ (decide directory s e).told ∷ []
 told_one directory s e = ap (λ z. (decide directory s e).told ∷ z) (either (is_end (decide directory s e).told.answer))
   where
-    either : (b : Bool) → cond b (let z : List Told = [] in z) [] ≡ []
+    either : (b : Bool) → cond b (let z : List ItemDecided = [] in z) [] ≡ []
     either true = refl
     either false = refl
 
 -- its page
-one_page : (o : Option Page) (t : Told) → t.page ≡ o → pages_of (t ∷ []) ≡ option_to_list o
+one_page : (o : Option Page) (t : ItemDecided) → t.page ≡ o → pages_of (t ∷ []) ≡ option_to_list o
 one_page None t h = ap (λ o. Rattle.std.specs.List.cons_option o []) h
 one_page (Some p) t h = ap (λ o. Rattle.std.specs.List.cons_option o []) h
 
@@ -161,10 +161,10 @@ pub record Further (directory : Directory) (spare : ℕ) (items : List Entry) (e
   pub course_is : course_at directory (start spare) (items ++ e ∷ []) ≡ (decide directory m e).course
 
 -- one counter more
-report_push : (told : List Told) (t : Told) → report_of (told ++ t ∷ []) ≡ added (report_of told) (counter_of (answer_of t.item) t.answer)
+report_push : (told : List ItemDecided) (t : ItemDecided) → report_of (told ++ t ∷ []) ≡ added (report_of told) (counter_of (answer_of t.item) t.answer)
 report_push told t =
-    ap counts (map-append (λ (z : Told). counter_of (answer_of z.item) z.answer) told (t ∷ []))
-    ∙ counts-push (map (λ (z : Told). counter_of (answer_of z.item) z.answer) told) (counter_of (answer_of t.item) t.answer)
+    ap counts (map-append (λ (z : ItemDecided). counter_of (answer_of z.item) z.answer) told (t ∷ []))
+    ∙ counts-push (map (λ (z : ItemDecided). counter_of (answer_of z.item) z.answer) told) (counter_of (answer_of t.item) t.answer)
 
 -- while no End was told
 pub one_further : (directory : Directory) (spare : ℕ) (items : List Entry) (e : Entry) (m : Course) → has_end (tell directory (start spare) items) ≡ false
@@ -174,8 +174,8 @@ one_further directory spare items e m h k =
     tell-append_open directory (start spare) items (e ∷ []) h
     ∙ ap (λ z. tell directory (start spare) items ++ z) (told_one directory (course_at directory (start spare) items) e ∙ ap (λ s. (decide directory s e).told ∷ []) k) in
     record {
-      answers_are = ap answers_of told_is ∙ map-append (λ (t : Told). t.answer) (tell directory (start spare) items) ((decide directory m e).told ∷ []);
-      pages_are = ap pages_of told_is ∙ filter_map-append (λ (t : Told). t.page) (tell directory (start spare) items) ((decide directory m e).told ∷ [])
+      answers_are = ap answers_of told_is ∙ map-append (λ (t : ItemDecided). t.answer) (tell directory (start spare) items) ((decide directory m e).told ∷ []);
+      pages_are = ap pages_of told_is ∙ filter_map-append (λ (t : ItemDecided). t.page) (tell directory (start spare) items) ((decide directory m e).told ∷ [])
           ∙ ap (λ z. pages_of (tell directory (start spare) items) ++ z) (one_page (decide directory m e).told.page (decide directory m e).told refl);
       report_is = ap report_of told_is ∙ report_push (tell directory (start spare) items) (decide directory m e).told;
       end_is = ap has_end told_is ∙ has_end-append (tell directory (start spare) items) ((decide directory m e).told ∷ []) ∙ ap (λ b. b || (is_end (decide directory m e).told.answer || false)) h ∙ or_false _;
@@ -212,13 +212,13 @@ forced_after e answer = by_end (is_end answer) (is_wrong e)
     by_end false false = refl
 
 -- a character that completes an item, which is judged and then counted
-pub item_on : (password : Option (List ℕ)) (directory : Directory) (spare : ℕ) (t mid judged : Desk) (report : Report) (x : List ℕ) (c : ℕ) (session : Session)
+pub item_on : (password : Option (List ℕ)) (directory : Directory) (spare : ℕ) (t mid judged : TerminalState) (report : Report) (x : List ℕ) (c : ℕ) (session : Session)
     (item : Item) (answer : Answer) (before after : Pool)
     → t.stage ≡ Open → t.heard < 999999 → mid.heard ≡ t.heard + 1 → mid.joined ≡ t.joined → mid.wrong ≡ t.wrong → mid.report ≡ t.report
     → mid.scanner.password ≡ t.scanner.password
-    → ((items : List Entry) → StandsFor BeforeLogon t.scanner x items → ReadsOn BeforeLogon mid.scanner x items c (Some item))
-    → ((e : Entry) → item ≡ answer_of e → BodyIs (Some e) mid.scanner.kept → IsJudged directory mid judged e answer before after)
-    → Keeps mid judged → report ≡ added judged.report (counter_of item answer)
+    → ((items : List Entry) → ScannerStandsFor BeforeLogon t.scanner x items → ReadsOn BeforeLogon mid.scanner x items c (Some item))
+    → ((e : Entry) → item ≡ answer_of e → BodyIs (Some e) mid.scanner.kept → IsItemJudged directory mid judged e answer before after)
+    → KeepsSession mid judged → report ≡ added judged.report (counter_of item answer)
     → Stands password directory spare t x session before.spare
     → HearsOn password directory spare (record judged { report = report }) x c session answer before after
 item_on password directory spare t mid judged report x c session item answer before after h few heard joined wrong kept same reads judges keeps counted k =
@@ -232,12 +232,12 @@ item_on password directory spare t mid judged report x c session item answer bef
     m : Course
     m = course_of mid before.spare
 
-    new : Desk
+    new : TerminalState
     new = record judged { report = report }
 
     found : (further : Option Entry) → ◌≡◌ {A = Option Item} (Some item) (option_map answer_of further) → BodyIs further mid.scanner.kept
         → (o : IsOpenAt password directory spare t x session before.spare)
-        → StandsFor BeforeLogon mid.scanner (x ++ c ∷ []) (o.items ++ option_to_list further)
+        → ScannerStandsFor BeforeLogon mid.scanner (x ++ c ∷ []) (o.items ++ option_to_list further)
         → HearsOn password directory spare new x c session answer before after
     found None e b o s = absurd cc
     found (Some entry) e b o s =
@@ -265,7 +265,7 @@ item_on password directory spare t mid judged report x c session item answer bef
         }
       where
         goes : (b : Bool) → is_end answer ≡ b → (entry : Entry) → (o : IsOpenAt password directory spare t x session before.spare)
-            → StandsFor BeforeLogon mid.scanner (x ++ c ∷ []) (o.items ++ entry ∷ []) → IsJudged directory mid judged entry answer before after → Further directory spare o.items entry m
+            → ScannerStandsFor BeforeLogon mid.scanner (x ++ c ∷ []) (o.items ++ entry ∷ []) → IsItemJudged directory mid judged entry answer before after → Further directory spare o.items entry m
             → length (x ++ c ∷ []) ≤ 999999
             → StandsAt judged.stage password directory spare new (x ++ c ∷ []) (sum_up (tell directory (start spare) (o.items ++ entry ∷ []))) after.spare
         goes true q entry o s j f short =
@@ -277,8 +277,8 @@ item_on password directory spare t mid judged report x c session item answer bef
             subst (λ st. StandsAt st password directory spare new (x ++ c ∷ []) (sum_up (tell directory (start spare) (o.items ++ entry ∷ []))) after.spare)
             (sym (is_open_true judged.stage (ap is_open j.stage ∙ open_after entry answer ∙ ap not q))) (record {
               items = o.items ++ entry ∷ [];
-              scanner = subst (λ z. StandsFor BeforeLogon z (x ++ c ∷ []) (o.items ++ entry ∷ [])) (sym keeps.scanner) s;
-              password_is = ap (λ (z : Held). z.password) keeps.scanner ∙ same ∙ o.password_is;
+              scanner = subst (λ z. ScannerStandsFor BeforeLogon z (x ++ c ∷ []) (o.items ++ entry ∷ [])) (sym keeps.scanner) s;
+              password_is = ap (λ (z : ScannerState). z.password) keeps.scanner ∙ same ∙ o.password_is;
               heard = keeps.heard ∙ heard ∙ (let q = o.heard in simp length-append (omega arith));
               few = short;
               no_end = f.end_is ∙ ap is_end (sym j.answer_is) ∙ q;
@@ -287,7 +287,7 @@ item_on password directory spare t mid judged report x c session item answer bef
             })
 
 -- what a terminal stands for is the session of these characters
-at_session : (st : Stage) (password : Option (List ℕ)) (directory : Directory) (spare : ℕ) (t : Desk) (x : List ℕ) (session : Session) (left : ℕ)
+at_session : (st : Stage) (password : Option (List ℕ)) (directory : Directory) (spare : ℕ) (t : TerminalState) (x : List ℕ) (session : Session) (left : ℕ)
     → StandsAt st password directory spare t x session left → IsSession password directory spare x session
 at_session Ended password directory spare t x session left k = subst (λ z. IsSession password directory spare z session) (append-nil x) (k [])
 at_session Forced password directory spare t x session left k = subst (λ z. IsSession password directory spare z session) (append-nil x) (k [])
@@ -296,6 +296,6 @@ at_session Open password directory spare t x session left o =
     (session_from password directory spare t.scanner x x o.items o.scanner o.password_is (take_all 999999 x o.few))
 
 -- at every stage
-pub stands_session : (password : Option (List ℕ)) (directory : Directory) (spare : ℕ) (t : Desk) (x : List ℕ) (session : Session) (left : ℕ)
+pub stands_session : (password : Option (List ℕ)) (directory : Directory) (spare : ℕ) (t : TerminalState) (x : List ℕ) (session : Session) (left : ℕ)
     → Stands password directory spare t x session left → IsSession password directory spare x session
 stands_session password directory spare t x session left k = at_session t.stage password directory spare t x session left k.at_stage

@@ -3,16 +3,16 @@ use Rattle.std.proofs.Common.{◌≡◌, ℕ, ◌-◌, ◌<◌, ◌≤◌, Bool,
 use Rattle.std.proofs.lemmas.Bool.{cases_lt}
 use Rattle.std.proofs.lemmas.List.{take_all, take-append-le, map-append}
 use Rattle.std.proofs.lemmas.List.Elements.{filter_map-append}
-use Rattle.tap_block.specs.Brief.{Held, in_line}
+use Rattle.tap_block.specs.Brief.{ScannerState, in_line}
 use Rattle.tap_block.specs.Reading.{Entry, BeforeLogon}
 use Rattle.tap_block.proofs.Grows.{stands_nil}
 use Rattle.subscribers.specs.Directory.{Directory}
-use Rattle.tap_terminal.specs.Session.{Told, Session, Continues, start, tell, has_end, closing, answers_of, pages_of, session_of, IsSession}
-use Rattle.tap_terminal.specs.Desk.{course_at, sum_up}
+use Rattle.tap_terminal.specs.Session.{ItemDecided, Session, Continues, start, tell, has_end, closing, answers_of, pages_of, session_of, IsSession}
+use Rattle.tap_terminal.specs.State.{course_at, sum_up}
 use Rattle.tap_terminal.proofs.Sessions.{Extended, extend, session_from, one_session, tell-append_open, tell-append_ended, settled, ended_settled, short_settled, too_long, by_length, take_over}
 
 -- a scanner that stands for no character
-abbrev fresh : Option (List ℕ) → Held
+abbrev fresh : Option (List ℕ) → ScannerState
 fresh password = record { password = password; kept = []; brief = in_line [] }
 
 -- a scanner that stands for these characters
@@ -35,7 +35,7 @@ same front whole h = record {
 }
 
 -- a session that is over has the same length for ever
-pub over_settled : (told : List Told) (m n : ℕ) → 1000000 ≤ m → 1000000 ≤ n → session_of told n ≡ session_of told m
+pub over_settled : (told : List ItemDecided) (m n : ℕ) → 1000000 ≤ m → 1000000 ≤ n → session_of told n ≡ session_of told m
 over_settled told m n h k = by_end (has_end told) refl
   where
     by_end : (b : Bool) → has_end told ≡ b → session_of told n ≡ session_of told m
@@ -43,12 +43,12 @@ over_settled told m n h k = by_end (has_end told) refl
     by_end false e = ap (by_length told) (too_long told n e k ∙ sym (too_long told m e h))
 
 -- more was told
-longer : (told rest : List Told) (count : ℕ) → Continues (sum_up told) (session_of (told ++ rest) count)
+longer : (told rest : List ItemDecided) (count : ℕ) → Continues (sum_up told) (session_of (told ++ rest) count)
 longer told rest count = record {
   answers = answers_of rest ++ closing (told ++ rest) count;
   pages = pages_of rest;
-  answers_are = ap (λ z. z ++ closing (told ++ rest) count) (map-append (λ (t : Told). t.answer) told rest) ∙ append_assoc (answers_of told) (answers_of rest) (closing (told ++ rest) count);
-  pages_are = filter_map-append (λ (t : Told). t.page) told rest;
+  answers_are = ap (λ z. z ++ closing (told ++ rest) count) (map-append (λ (t : ItemDecided). t.answer) told rest) ∙ append_assoc (answers_of told) (answers_of rest) (closing (told ++ rest) count);
+  pages_are = filter_map-append (λ (t : ItemDecided). t.page) told rest;
 }
 
 -- a front of at most 999,999 characters, by the items of both
@@ -56,7 +56,7 @@ short_front : (directory : Directory) (spare : ℕ) (items more : List Entry) (m
     → Continues (session_of (tell directory (start spare) items) m) (session_of (tell directory (start spare) (items ++ more)) n)
 short_front directory spare items more m n h = by_end (has_end told) refl
   where
-    told : List Told
+    told : List ItemDecided
     told = tell directory (start spare) items
 
     by_end : (b : Bool) → has_end told ≡ b → Continues (session_of told m) (session_of (tell directory (start spare) (items ++ more)) n)

@@ -5,7 +5,7 @@ use Rattle.std.specs.Prelude.{count_by}
 use Rattle.std.proofs.lemmas.List.Sums.{sum_by-append}
 use Rattle.tap_terminal.specs.declared.answers.Reason.TheVariants.{Body, Content, Form, Unknown, Text, Room}
 use Rattle.tap_terminal.specs.declared.report.Report.{Report}
-use Rattle.tap_terminal.specs.Reports.{Counter, a_page, a_continued, a_nak, refusal, a_wrong, uncounted, number_of, counts, added, tally}
+use Rattle.tap_terminal.specs.Reports.{Counter, a_page, a_continued, a_nak, refusal, a_wrong, uncounted, counter_number, counts, added, tally}
 
 -- how many of two lists
 pub count_by-append : {X : Type 0} (p : X → Bool) (xs ys : List X) → count_by p (xs ++ ys) ≡ count_by p xs + count_by p ys
@@ -29,16 +29,16 @@ sums r s = record {
 -- each counter by itself
 pub counts-append : (xs ys : List Counter) → counts (xs ++ ys) ≡ sums (counts xs) (counts ys)
 counts-append xs ys = rw (
-  count_by-append (λ k. number_of k == 0) xs ys,
-  count_by-append (λ k. number_of k == 1) xs ys,
-  count_by-append (λ k. number_of k == 2) xs ys,
-  count_by-append (λ k. number_of k == 3) xs ys,
-  count_by-append (λ k. number_of k == 4) xs ys,
-  count_by-append (λ k. number_of k == 5) xs ys,
-  count_by-append (λ k. number_of k == 6) xs ys,
-  count_by-append (λ k. number_of k == 7) xs ys,
-  count_by-append (λ k. number_of k == 8) xs ys,
-  count_by-append (λ k. number_of k == 9) xs ys,
+  count_by-append (λ k. counter_number k == 0) xs ys,
+  count_by-append (λ k. counter_number k == 1) xs ys,
+  count_by-append (λ k. counter_number k == 2) xs ys,
+  count_by-append (λ k. counter_number k == 3) xs ys,
+  count_by-append (λ k. counter_number k == 4) xs ys,
+  count_by-append (λ k. counter_number k == 5) xs ys,
+  count_by-append (λ k. counter_number k == 6) xs ys,
+  count_by-append (λ k. counter_number k == 7) xs ys,
+  count_by-append (λ k. counter_number k == 8) xs ys,
+  count_by-append (λ k. counter_number k == 9) xs ys,
 ) refl
 
 -- the report of one item more

@@ -8,7 +8,8 @@ use Rattle.codeword.specs.declared.functions.Function.TheVariants.{Numeric, Tone
 use Rattle.page_text.specs.Page.{Page}
 use Rattle.subscribers.specs.Parts.{Ids}
 use Rattle.subscribers.specs.declared.subscriber.Subscriber.{Subscriber}
-use Rattle.tap_block.specs.Chars.{stx, etx, eot, cr, us, sub, esc}
+use Rattle.entry_line.specs.Chars.{cr}
+use Rattle.tap_block.specs.Chars.{stx, etx, eot, us, sub, esc}
 use Rattle.tap_block.specs.Reading.{BeforeLogon, items_of}
 use Rattle.tap_block.proofs.Exists.{cut}
 use Rattle.tap_terminal.specs.declared.answers.Answer.TheVariants.{Id, Go, Ack, Nak, Rs, End}
@@ -16,7 +17,7 @@ use Rattle.tap_terminal.specs.declared.answers.Reason.TheVariants.{Body, Content
 use Rattle.tap_terminal.specs.declared.report.Report.{Report}
 use Rattle.tap_terminal.specs.Replies.{replies}
 use Rattle.subscribers.specs.Directory.{Directory}
-use Rattle.tap_terminal.specs.Session.{Told, Session, tell, start, session_of}
+use Rattle.tap_terminal.specs.Session.{ItemDecided, Session, tell, start, session_of}
 
 -- six subscribers
 abbrev subscribers : List (List ℕ × Subscriber)
@@ -38,7 +39,7 @@ as_map : (id : List ℕ) → (let ids : Ids = from_entries subscribers in get id
 as_map id = get-from_entries nat_list_cmp_total subscribers id
 
 -- what is decided in a session, with this password
-abbrev told_with : Option (List ℕ) → ℕ → List ℕ → List Told
+abbrev told_with : Option (List ℕ) → ℕ → List ℕ → List ItemDecided
 told_with password spare x = tell directory (start spare) (items_of password (cut (length x) password BeforeLogon x).0)
 
 -- the session of characters

@@ -6,12 +6,12 @@ use Rattle.std.proofs.lemmas.Bool.Decides.{nat_tests}
 use Rattle.page_text.specs.Page.{Page}
 use Rattle.page_text.specs.Fits.{Fits}
 use Rattle.page_pool.specs.Cells.{cells_for}
-use Rattle.page_pool.specs.Pool.{Pool, Live, Puts, pages, page}
+use Rattle.page_pool.specs.Pool.{Pool, Live, PutsPage, pages, page}
 use Rattle.subscribers.specs.declared.subscriber.Subscriber.{Subscriber}
 use Rattle.tap_block.specs.declared.ends.End.{End as BlockEnd}
 use Rattle.tap_block.specs.declared.ends.End.TheVariants.{Etx, Etb, Us}
 use Rattle.tap_block.specs.declared.faults.FieldFault.{FieldFault}
-use Rattle.tap_block.specs.Fields.{AreParts, parts_of, read_field, HasValue, HasFault}
+use Rattle.tap_block.specs.Fields.{AreParts, content_parts, read_field, HasValue, HasFault}
 use Rattle.tap_block.specs.Reading.{Entry, empty_line, logon, wrong_line, a_block, a_bye}
 use Rattle.tap_block.proofs.Values.{value_read, fault_read}
 use Rattle.tap_terminal.specs.declared.answers.Answer.{Answer}
@@ -22,50 +22,50 @@ use Rattle.page_text.specs.FitTest.{fits}
 use Rattle.subscribers.specs.Directory.{Directory}
 use Rattle.tap_terminal.specs.Verdict.{Verdict, refused, both_values, values_of, fields_for, text_for, room_for, judge_content, by_end, verdict}
 use Rattle.tap_terminal.specs.Session.{is_end, cells_for_page, Course, decide}
-use Rattle.tap_terminal.specs.Desk.{Desk, Gains, IsDone, IsJudged, said}
+use Rattle.tap_terminal.specs.State.{TerminalState, GainsIfAny, IsVerdictDone, IsItemJudged, said}
 use Rattle.tap_block.proofs.PartsOf.{parts_some, parts_none}
 use Rattle.page_text.proofs.FitTest.{fits_from_test, test_from_fits}
 
 -- a refusal leaves the pool
-pub refusal_done : (v : Verdict) (pool : Pool) → v.page ≡ None → IsDone v v.answer pool pool
-refusal_done v pool h = record { answer_is = refl; pool = subst (λ o. Gains pool pool o) (sym h) refl }
+pub refusal_done : (v : Verdict) (pool : Pool) → v.page ≡ None → IsVerdictDone v v.answer pool pool
+refusal_done v pool h = record { answer_is = refl; pool = subst (λ o. GainsIfAny pool pool o) (sym h) refl }
 
 -- a content without both values is refused
-pub form_fault : (directory : Directory) (content : List ℕ) (pool : Pool) → values_of (parts_of content) ≡ None
-    → IsDone (judge_content directory pool.spare content) (Rs Form) pool pool
+pub form_fault : (directory : Directory) (content : List ℕ) (pool : Pool) → values_of (content_parts content) ≡ None
+    → IsVerdictDone (judge_content directory pool.spare content) (Rs Form) pool pool
 form_fault directory content pool e =
-    subst (λ o. IsDone (fields_for directory pool.spare o) (Rs Form) pool pool) (sym e) (record { answer_is = refl; pool = refl })
+    subst (λ o. IsVerdictDone (fields_for directory pool.spare o) (Rs Form) pool pool) (sym e) (record { answer_is = refl; pool = refl })
 
 -- a content of no two parts
-pub no_values : (content : List ℕ) → ((a b : List ℕ) → AreParts content a b → ⊥) → values_of (parts_of content) ≡ None
+pub no_values : (content : List ℕ) → ((a b : List ℕ) → AreParts content a b → ⊥) → values_of (content_parts content) ≡ None
 no_values content h = ap values_of (parts_none content h)
 
 -- the first field has no value
-pub no_first : (content a b : List ℕ) (fault : FieldFault) → AreParts content a b → HasFault a fault → values_of (parts_of content) ≡ None
+pub no_first : (content a b : List ℕ) (fault : FieldFault) → AreParts content a b → HasFault a fault → values_of (content_parts content) ≡ None
 no_first content a b fault p e = ap values_of (parts_some content a b p) ∙ ap (λ r. both_values r (read_field b)) (fault_read a fault e)
 
 -- the second field has no value
-pub no_second : (content a b v : List ℕ) (fault : FieldFault) → AreParts content a b → HasValue a v → HasFault b fault → values_of (parts_of content) ≡ None
+pub no_second : (content a b v : List ℕ) (fault : FieldFault) → AreParts content a b → HasValue a v → HasFault b fault → values_of (content_parts content) ≡ None
 no_second content a b v fault p e f =
     ap values_of (parts_some content a b p) ∙ ap (λ r. both_values r (read_field b)) (value_read a v e) ∙ ap (λ r. both_values (Ok v) r) (fault_read b fault f)
 
 -- both fields have a value
-pub both_read : (content a b v w : List ℕ) → AreParts content a b → HasValue a v → HasValue b w → values_of (parts_of content) ≡ Some (v, w)
+pub both_read : (content a b v w : List ℕ) → AreParts content a b → HasValue a v → HasValue b w → values_of (content_parts content) ≡ Some (v, w)
 both_read content a b v w p e f =
     ap values_of (parts_some content a b p) ∙ ap (λ r. both_values r (read_field b)) (value_read a v e) ∙ ap (λ r. both_values (Ok v) r) (value_read b w f)
 
 -- a content with both values is answered as these
-pub fields_done : (directory : Directory) (content v w : List ℕ) (answer : Answer) (before after : Pool) → values_of (parts_of content) ≡ Some (v, w)
-    → IsDone (text_for (directory v) w before.spare) answer before after → IsDone (judge_content directory before.spare content) answer before after
+pub fields_done : (directory : Directory) (content v w : List ℕ) (answer : Answer) (before after : Pool) → values_of (content_parts content) ≡ Some (v, w)
+    → IsVerdictDone (text_for (directory v) w before.spare) answer before after → IsVerdictDone (judge_content directory before.spare content) answer before after
 fields_done directory content v w answer before after e h =
-    subst (λ o. IsDone (fields_for directory before.spare o) answer before after) (sym e) h
+    subst (λ o. IsVerdictDone (fields_for directory before.spare o) answer before after) (sym e) h
 
 -- a text that doesn't fit
 pub misfit_done : (o : Option Subscriber) (s : Subscriber) (text : List ℕ) (pool : Pool) → o ≡ Some s → ¬ Fits s.function text
-    → IsDone (text_for o text pool.spare) (Rs Text) pool pool
-misfit_done o s text pool e h = subst (λ z. IsDone (text_for z text pool.spare) (Rs Text) pool pool) (sym e) (by_test (fits s.function text) refl)
+    → IsVerdictDone (text_for o text pool.spare) (Rs Text) pool pool
+misfit_done o s text pool e h = subst (λ z. IsVerdictDone (text_for z text pool.spare) (Rs Text) pool pool) (sym e) (by_test (fits s.function text) refl)
   where
-    by_test : (b : Bool) → fits s.function text ≡ b → IsDone (cond b (room_for s text pool.spare) (refused Text)) (Rs Text) pool pool
+    by_test : (b : Bool) → fits s.function text ≡ b → IsVerdictDone (cond b (room_for s text pool.spare) (refused Text)) (Rs Text) pool pool
     by_test true k = absurd (h (fits_from_test s.function text k))
     by_test false k = record { answer_is = refl; pool = refl }
 
@@ -75,30 +75,30 @@ fitting s text spare h = ap (λ b. cond b (room_for s text spare) (refused Text)
 
 -- a text without room
 pub full_done : (o : Option Subscriber) (s : Subscriber) (text : List ℕ) (before after : Pool) → o ≡ Some s → Fits s.function text → before.spare < cells_for (length text) → after ≡ before
-    → IsDone (text_for o text before.spare) (Rs Room) before after
+    → IsVerdictDone (text_for o text before.spare) (Rs Room) before after
 full_done o s text before after e h full same =
     let t : nat_lt before.spare (cells_for (length text)) ≡ true = grind (arith, nat_tests) in
-    subst (λ z. IsDone (text_for z text before.spare) (Rs Room) before after) (sym e)
-    (subst (λ v. IsDone v (Rs Room) before after) (sym (fitting s text before.spare h ∙ ap (λ b. cond b (refused Room) (record { answer = Ack; joined = []; page = Some (record { capcode = s.capcode; function = s.function; text = text }) })) t))
+    subst (λ z. IsVerdictDone (text_for z text before.spare) (Rs Room) before after) (sym e)
+    (subst (λ v. IsVerdictDone v (Rs Room) before after) (sym (fitting s text before.spare h ∙ ap (λ b. cond b (refused Room) (record { answer = Ack; joined = []; page = Some (record { capcode = s.capcode; function = s.function; text = text }) })) t))
     (record { answer_is = refl; pool = same }))
 
 -- a text with room
-pub put_done : (o : Option Subscriber) (s : Subscriber) (text : List ℕ) (before after : Pool) → o ≡ Some s → Fits s.function text → Puts before after (page s.capcode s.function text)
-    → IsDone (text_for o text before.spare) Ack before after
+pub put_done : (o : Option Subscriber) (s : Subscriber) (text : List ℕ) (before after : Pool) → o ≡ Some s → Fits s.function text → PutsPage before after (page s.capcode s.function text)
+    → IsVerdictDone (text_for o text before.spare) Ack before after
 put_done o s text before after e h put =
     let q = put.spare in
     let t : nat_lt before.spare (cells_for (length text)) ≡ false = grind (arith, nat_tests) in
-    subst (λ z. IsDone (text_for z text before.spare) Ack before after) (sym e)
-    (subst (λ v. IsDone v Ack before after) (sym (fitting s text before.spare h ∙ ap (λ b. cond b (refused Room) (record { answer = Ack; joined = []; page = Some (record { capcode = s.capcode; function = s.function; text = text }) })) t))
+    subst (λ z. IsVerdictDone (text_for z text before.spare) Ack before after) (sym e)
+    (subst (λ v. IsVerdictDone v Ack before after) (sym (fitting s text before.spare h ∙ ap (λ b. cond b (refused Room) (record { answer = Ack; joined = []; page = Some (record { capcode = s.capcode; function = s.function; text = text }) })) t))
     (record { answer_is = refl; pool = put }))
 
 -- the cells that are left
-pub gains_left : (before after : Pool) (o : Option Page) → Gains before after o → after.spare ≡ before.spare - cells_for_page o
+pub gains_left : (before after : Pool) (o : Option Page) → GainsIfAny before after o → after.spare ≡ before.spare - cells_for_page o
 gains_left before after None h = let q = ap (λ (w : Pool). w.spare) h in omega (arith, q)
 gains_left before after (Some p) h = let q = h.spare in omega (arith, q)
 
 -- the pages that are live then
-pub gains_pages : (before after : Pool) (o : Option Page) → Gains before after o → pages after ≡ pages before ++ option_to_list o
+pub gains_pages : (before after : Pool) (o : Option Page) → GainsIfAny before after o → pages after ≡ pages before ++ option_to_list o
 gains_pages before after None h = ap pages h ∙ sym (append-nil (pages before))
 gains_pages before after (Some p) h =
     ap (map (λ (e : Live). e.page)) h.at_end ∙ map-append (λ (e : Live). e.page) before.live (h.entry ∷ []) ∙ ap (λ z. pages before ++ z ∷ []) h.is
@@ -128,11 +128,11 @@ fields_close directory spare (Some (id, text)) = text_closes (directory id) text
 
 -- no verdict on a content is End
 pub content_no_end : (directory : Directory) (spare : ℕ) (content : List ℕ) → is_end (judge_content directory spare content).answer ≡ false
-content_no_end directory spare content = (fields_close directory spare (values_of (parts_of content))).no_end
+content_no_end directory spare content = (fields_close directory spare (values_of (content_parts content))).no_end
 
 -- each leaves no content
 pub content_joined : (directory : Directory) (spare : ℕ) (content : List ℕ) → (judge_content directory spare content).joined ≡ []
-content_joined directory spare content = (fields_close directory spare (values_of (parts_of content))).joined
+content_joined directory spare content = (fields_close directory spare (values_of (content_parts content))).joined
 
 -- a kept body of at most 250 characters is the body
 pub kept_whole : (b kept : List ℕ) (size : ℕ) → size ≡ min (length b) 251 → kept ≡ take 250 b → size ≤ 250 → kept ≡ b
@@ -164,15 +164,15 @@ goes_on_by directory spare e content (inl h) = ap (λ k. by_end directory spare 
 goes_on_by directory spare e content (inr h) = ap (λ k. by_end directory spare k content) h
 
 -- a block was judged by its verdict
-pub judged_by : (directory : Directory) (t : Desk) (j' b : List ℕ) (e : BlockEnd) (right : Bool) (answer : Answer) (before after : Pool) (v : Verdict)
-    → verdict directory before.spare t.joined b e right ≡ v → IsDone v answer before after → j' ≡ v.joined → t.stage ≡ Open → is_end v.answer ≡ false
-    → IsJudged directory t (record t { joined = j' }) (a_block b e right) answer before after
+pub judged_by : (directory : Directory) (t : TerminalState) (j' b : List ℕ) (e : BlockEnd) (right : Bool) (answer : Answer) (before after : Pool) (v : Verdict)
+    → verdict directory before.spare t.joined b e right ≡ v → IsVerdictDone v answer before after → j' ≡ v.joined → t.stage ≡ Open → is_end v.answer ≡ false
+    → IsItemJudged directory t (record t { joined = j' }) (a_block b e right) answer before after
 judged_by directory t j' b e right answer before after v h done joined opened no_end = record {
   answer_is = done.answer_is ∙ sym (ap (λ (z : Verdict). z.answer) h);
   course = ap (λ (z : Verdict). record { joined = z.joined; spare = before.spare - cells_for_page z.page; wrong = t.wrong }) h
       ∙ rw (← joined, ← gains_left before after v.page done.pool) refl;
   stage = opened ∙ sym (ap (λ z. cond z Ended Open) (ap is_end done.answer_is ∙ no_end));
-  pool = subst (λ (z : Verdict). Gains before after z.page) (sym h) done.pool;
+  pool = subst (λ (z : Verdict). GainsIfAny before after z.page) (sym h) done.pool;
 }
 
 -- each verdict is said
@@ -199,7 +199,7 @@ fields_said directory spare (Some (id, text)) = text_said (directory id) text sp
 
 -- a verdict by the end is said
 end_said : (directory : Directory) (spare : ℕ) (e : BlockEnd) (content : List ℕ) → IsSaid (by_end directory spare e content).answer
-end_said directory spare Etx content = fields_said directory spare (values_of (parts_of content))
+end_said directory spare Etx content = fields_said directory spare (values_of (content_parts content))
 end_said directory spare Etb content = refl
 end_said directory spare Us content = refl
 

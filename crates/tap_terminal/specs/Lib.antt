@@ -1,6 +1,6 @@
 pub mod Replies
 pub mod Reports
-pub mod Verdict
 pub mod Session
-pub mod Desk
-pub mod DeskView
+pub mod State
+pub mod StateView
+pub mod Verdict

@@ -37,36 +37,36 @@ counter_of (Block e right size) answer = block_counter e answer
 counter_of Bye answer = uncounted
 
 -- the number of a counter
-abbrev pub number_of : Counter → ℕ
-number_of a_page = 0
-number_of a_continued = 1
-number_of a_nak = 2
-number_of (refusal Body) = 3
-number_of (refusal Content) = 4
-number_of (refusal Form) = 5
-number_of (refusal Unknown) = 6
-number_of (refusal Text) = 7
-number_of (refusal Room) = 8
-number_of a_wrong = 9
-number_of uncounted = 10
+abbrev pub counter_number : Counter → ℕ
+counter_number a_page = 0
+counter_number a_continued = 1
+counter_number a_nak = 2
+counter_number (refusal Body) = 3
+counter_number (refusal Content) = 4
+counter_number (refusal Form) = 5
+counter_number (refusal Unknown) = 6
+counter_number (refusal Text) = 7
+counter_number (refusal Room) = 8
+counter_number a_wrong = 9
+counter_number uncounted = 10
 
 -- how often a counter stands in a list
-abbrev pub times : Counter → List Counter → ℕ
-times counter counters = count_by (λ k. number_of k == number_of counter) counters
+abbrev pub counter_times : Counter → List Counter → ℕ
+counter_times counter counters = count_by (λ k. counter_number k == counter_number counter) counters
 
 -- how often each counter stands in a list
 abbrev pub counts : List Counter → Report
 counts counters = record {
-  pages = times a_page counters;
-  continued = times a_continued counters;
-  nak = times a_nak counters;
-  body = times (refusal Body) counters;
-  content = times (refusal Content) counters;
-  form = times (refusal Form) counters;
-  unknown = times (refusal Unknown) counters;
-  text = times (refusal Text) counters;
-  room = times (refusal Room) counters;
-  wrong = times a_wrong counters;
+  pages = counter_times a_page counters;
+  continued = counter_times a_continued counters;
+  nak = counter_times a_nak counters;
+  body = counter_times (refusal Body) counters;
+  content = counter_times (refusal Content) counters;
+  form = counter_times (refusal Form) counters;
+  unknown = counter_times (refusal Unknown) counters;
+  text = counter_times (refusal Text) counters;
+  room = counter_times (refusal Room) counters;
+  wrong = counter_times a_wrong counters;
 }
 
 -- a report with one item more

@@ -1,9 +1,10 @@
 -- A whole session: docs/profile.md, "session" and "length of a session".
+use Rattle.entry_line.specs.Chars.{last_character}
 use Rattle.std.specs.Prelude.{◌≡◌, ℕ, ◌+◌, ◌-◌, nat_le, ◌==◌, Bool, true, false, ◌||◌, ◌&&◌, not, if◌then◌else◌, List, [], ◌∷◌, ◌++◌, length, take, map, Option, Some, None}
 use Rattle.std.specs.List.{filter_map}
 use Rattle.page_text.specs.Page.{Page}
 use Rattle.page_pool.specs.Cells.{cells_of}
-use Rattle.tap_block.specs.Reading.{Entry, empty_line, logon, wrong_line, a_block, a_bye, BeforeLogon, Piece, Reads, items_of}
+use Rattle.tap_block.specs.Reading.{Entry, empty_line, logon, wrong_line, a_block, a_bye, BeforeLogon, InputPiece, Reads, items_of}
 use Rattle.tap_block.specs.Brief.{answer_of}
 use Rattle.tap_terminal.specs.declared.answers.Answer.{Answer}
 use Rattle.tap_terminal.specs.declared.answers.Answer.TheVariants.{Id, Go, Nak, End}
@@ -12,12 +13,8 @@ use Rattle.tap_terminal.specs.Reports.{counter_of, counts}
 use Rattle.subscribers.specs.Directory.{Directory}
 use Rattle.tap_terminal.specs.Verdict.{Verdict, verdict}
 
--- the last character of a session that isn't ended by an item
-abbrev pub longest : ℕ
-longest = 1000000
-
 -- what was decided at an item
-pub record Told : Type 0 where
+pub record ItemDecided : Type 0 where
   pub item : Entry
   pub answer : Answer
   pub page : Option Page
@@ -35,7 +32,7 @@ cells_for_page (Some page) = cells_of page
 
 -- what is decided at an item, and what is then
 pub record Decided : Type 0 where
-  pub told : Told
+  pub told : ItemDecided
   pub course : Course
 
 -- a block is answered by its verdict
@@ -63,7 +60,7 @@ is_end End = true
 is_end other = false
 
 -- the items in order, up to the first End
-abbrev pub tell : Directory → Course → List Entry → List Told
+abbrev pub tell : Directory → Course → List Entry → List ItemDecided
 tell directory s [] = []
 tell directory s (e ∷ es) = (decide directory s e).told ∷ (if is_end (decide directory s e).told.answer then [] else tell directory (decide directory s e).course es)
 
@@ -72,19 +69,19 @@ abbrev pub start : ℕ → Course
 start spare = record { joined = []; spare = spare; wrong = 0 }
 
 -- their answers
-abbrev pub answers_of : List Told → List Answer
+abbrev pub answers_of : List ItemDecided → List Answer
 answers_of told = map (λ t. t.answer) told
 
 -- the pages that were queued
-abbrev pub pages_of : List Told → List Page
+abbrev pub pages_of : List ItemDecided → List Page
 pages_of told = filter_map (λ t. t.page) told
 
 -- how often each answer came
-abbrev pub report_of : List Told → Report
+abbrev pub report_of : List ItemDecided → Report
 report_of told = counts (map (λ t. counter_of (answer_of t.item) t.answer) told)
 
 -- an End is among them
-abbrev pub has_end : List Told → Bool
+abbrev pub has_end : List ItemDecided → Bool
 has_end [] = false
 has_end (t ∷ told) = is_end t.answer || has_end told
 
@@ -94,16 +91,16 @@ is_wrong wrong_line = true
 is_wrong other = false
 
 -- the End of a wrong line is among them
-abbrev pub has_wrong_end : List Told → Bool
+abbrev pub has_wrong_end : List ItemDecided → Bool
 has_wrong_end [] = false
 has_wrong_end (t ∷ told) = (is_wrong t.item && is_end t.answer) || has_wrong_end told
 
 -- no End was among them, and so many characters are one too many
-abbrev pub is_too_long : List Told → ℕ → Bool
-is_too_long told count = not (has_end told) && nat_le longest count
+abbrev pub is_too_long : List ItemDecided → ℕ → Bool
+is_too_long told count = not (has_end told) && nat_le last_character count
 
 -- one more End for the length
-abbrev pub closing : List Told → ℕ → List Answer
+abbrev pub closing : List ItemDecided → ℕ → List Answer
 closing told count = if is_too_long told count then End ∷ [] else []
 
 -- the answers, the pages that were queued, the report, and whether a wrong line or the length ended it
@@ -114,7 +111,7 @@ pub record Session : Type 0 where
   pub forced : Bool
 
 -- the session of so many characters, of which the first 999,999 have these items
-abbrev pub session_of : List Told → ℕ → Session
+abbrev pub session_of : List ItemDecided → ℕ → Session
 session_of told count = record {
   answers = answers_of told ++ closing told count;
   pages = pages_of told;
@@ -124,7 +121,7 @@ session_of told count = record {
 
 -- The session of the characters x.
 pub record IsSession (password : Option (List ℕ)) (directory : Directory) (spare : ℕ) (x : List ℕ) (session : Session) : Type 0 where
-  pub pieces : List Piece
+  pub pieces : List InputPiece
   pub rest : List ℕ
   pub reads : Reads password BeforeLogon pieces rest (take 999999 x)
   pub session_is : session ≡ session_of (tell directory (start spare) (items_of password pieces)) (length x)

@@ -3,7 +3,7 @@ use Rattle.std.specs.Prelude.{ℕ, ◌+◌, nat_lt, Bool, not, if◌then◌else�
 use Rattle.tap_block.specs.declared.ends.End.{End}
 use Rattle.tap_block.specs.declared.ends.End.TheVariants.{Etx}
 use Rattle.tap_block.specs.declared.faults.FieldFault.{FieldFault}
-use Rattle.tap_block.specs.Fields.{read_field, parts_of}
+use Rattle.tap_block.specs.Fields.{read_field, content_parts}
 use Rattle.page_text.specs.Page.{Page}
 use Rattle.page_pool.specs.Cells.{cells_for}
 use Rattle.subscribers.specs.Directory.{Directory}
@@ -53,7 +53,7 @@ fields_for directory spare (Some (id, text)) = text_for (directory id) text spar
 
 -- a whole content
 abbrev pub judge_content : Directory → ℕ → List ℕ → Verdict
-judge_content directory spare content = fields_for directory spare (values_of (parts_of content))
+judge_content directory spare content = fields_for directory spare (values_of (content_parts content))
 
 -- the content so far and the body, by the end of the block: ETB and US go on
 abbrev pub by_end : Directory → ℕ → End → List ℕ → Verdict

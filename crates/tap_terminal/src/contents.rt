@@ -3,7 +3,7 @@
 ghost use Rattle.std.specs.Prelude.{◌≤◌, length};
 ghost use Rattle.tap_terminal.specs.Verdict.{judge_content, text_for};
 ghost use Rattle.subscribers.specs.Directory.{directory_of};
-ghost use Rattle.tap_terminal.specs.Desk.{IsDone};
+ghost use Rattle.tap_terminal.specs.State.{IsVerdictDone};
 
 use crate::answers::{Answer, Reason};
 use crate::terminal::LONGEST_CONTENT;
@@ -15,7 +15,7 @@ use tap_block::{fields, unescape};
 /// Answers a whole content, and queues its page.
 pub(crate) fn judge_content(content: &[u8], settings: &Settings, pool: &mut Pool) -> Answer
     requires { length content.now ≤ 1000 }
-    ensures { IsDone (judge_content (directory_of settings.now) pool.old.spare content.now) result pool.old pool.new }
+    ensures { IsVerdictDone (judge_content (directory_of settings.now) pool.old.spare content.now) result pool.old pool.new }
 {
     let Some((first, second)) = fields(content) else {
         return Answer::Rs(Reason::Form);
@@ -33,7 +33,7 @@ pub(crate) fn judge_content(content: &[u8], settings: &Settings, pool: &mut Pool
 
 /// Answers the values of two fields, an id and a text, and queues their page.
 fn queue(id: &[u8], text: &[u8], settings: &Settings, pool: &mut Pool) -> Answer
-    ensures { IsDone (text_for (directory_of settings.now id.now) text.now pool.old.spare) result pool.old pool.new }
+    ensures { IsVerdictDone (text_for (directory_of settings.now id.now) text.now pool.old.spare) result pool.old pool.new }
 {
     let Some(subscriber) = settings.find(id) else {
         return Answer::Rs(Reason::Unknown);

@@ -3,7 +3,7 @@
 ghost use Rattle.std.specs.Prelude.{◌≡◌, ℕ, ◌++◌, List, Option};
 ghost use Rattle.subscribers.specs.Directory.{Directory};
 ghost use Rattle.tap_terminal.specs.Session.{Session, IsSession, Continues};
-ghost use Rattle.tap_terminal.specs.Desk.{Desk, Stands};
+ghost use Rattle.tap_terminal.specs.State.{TerminalState, Stands};
 
 /// Each list of characters has exactly one session.
 pub fn one_session()
@@ -14,7 +14,7 @@ pub fn one_session()
 
 /// Where a terminal stands for characters with a session, it is the session of these characters.
 pub fn standing()
-    ensures { (password : Option (List ℕ)) (directory : Directory) (spare left : ℕ) (t : Desk) (x : List ℕ) (session : Session)
+    ensures { (password : Option (List ℕ)) (directory : Directory) (spare left : ℕ) (t : TerminalState) (x : List ℕ) (session : Session)
         → Stands password directory spare t x session left → IsSession password directory spare x session }
 {}
 

@@ -3,23 +3,24 @@
 //! How it is built. A terminal holds a scanner, which reads the characters, and the content of the transaction so far. `feed` takes
 //! one character. Where it completes an item, `judge` answers it, and the item is counted. A whole content goes to `contents`.
 //!
-//! What to mind. A contract sees a terminal as what it holds (`Desk`, `specs/Desk.antt`), and says for which characters it stands
+//! What to mind. A contract sees a terminal as what it holds (`TerminalState`, `specs/State.antt`), and says for which characters it stands
 //! (`Stands`). The session of a whole list is defined without the terminal (`specs/Session.antt`). The body of a block is read from
 //! the scanner before the next character is fed.
 
 ghost use Rattle.std.specs.Prelude.{◌≡◌, ℕ, ◌+◌, ◌≤◌, ◌<◌, ◌++◌, ◌∷◌, [], List, Option, Some, min, take, length, length as length_of};
 ghost use Rattle.page_pool.specs.Pool.{cells};
-ghost use Rattle.tap_block.specs.Chars.{char_of};
+ghost use Rattle.entry_line.specs.Chars.{char_of};
 ghost use Rattle.tap_block.specs.Reading.{Entry, a_block};
 ghost use Rattle.tap_block.specs.Brief.{answer_of, BodyIs};
 ghost use Rattle.subscribers.specs.Directory.{Directory, directory_of};
 ghost use Rattle.tap_terminal.specs.Session.{Session};
-ghost use Rattle.tap_terminal.specs.Desk.{Stands, HearsOn, IsJudged, Keeps, unheard};
+ghost use Rattle.tap_terminal.specs.State.{Stands, HearsOn, IsItemJudged, KeepsSession, unheard};
 
 use crate::answers::{Answer, Reason};
 use crate::contents::judge_content;
 use crate::report::{EMPTY, Report};
 use arrayvec::ArrayVec;
+use entry_line::characters::LAST_CHARACTER;
 use page_pool::Pool;
 use std::marker::Model;
 use subscribers::Settings;
@@ -27,9 +28,6 @@ use tap_block::{End, Item, LONGEST_BODY, Scanner};
 
 /// The most characters that the content of a transaction may have.
 pub const LONGEST_CONTENT: usize = 1000;
-
-/// The character of this number in a session that is still open ends it.
-pub const LAST_CHARACTER: u32 = 1_000_000;
 
 /// The wrong line of this number ends a session.
 pub const LAST_WRONG_LINE: u32 = 3;
@@ -45,7 +43,7 @@ pub enum Stage {
     Forced,
 }
 
-/// One session of the entry line. A contract sees it as what it holds (`Desk`).
+/// One session of the entry line. A contract sees it as what it holds (`TerminalState`).
 #[derive(Drop)]
 pub struct Terminal {
     password: Option<[u8; 6]>,
@@ -61,15 +59,15 @@ pub struct Terminal {
 }
 
 impl Model for Terminal {
-    ghost use Rattle.tap_terminal.specs.Desk.{Desk};
+    ghost use Rattle.tap_terminal.specs.State.{TerminalState};
 
-    ghost Value = { Desk };
+    ghost Value = { TerminalState };
 
-    ghost use Rattle.tap_terminal.specs.DeskView.{desk_of, IsInRange};
+    ghost use Rattle.tap_terminal.specs.StateView.{terminal_state_of, TerminalIsInRange};
 
-    ghost view = { desk_of };
+    ghost view = { terminal_state_of };
 
-    ghost invariant = { IsInRange };
+    ghost invariant = { TerminalIsInRange };
 }
 
 impl Terminal {
@@ -152,9 +150,9 @@ impl Terminal {
     fn judge(&mut self, item: Item, settings: &Settings, pool: &mut Pool) -> Answer
         requires room { self.old.wrong < self.old.heard }
         requires stage { self.old.stage ≡ Stage.Open }
-        ensures keeps { Keeps self.old self.new }
+        ensures keeps { KeepsSession self.old self.new }
         ensures judged { (e : Entry) → item ≡ answer_of e → BodyIs (Some e) self.old.scanner.kept
-            → IsJudged (directory_of settings.now) self.old self.new e result pool.old pool.new }
+            → IsItemJudged (directory_of settings.now) self.old self.new e result pool.old pool.new }
         ensures cells_stay { cells pool.new ≡ cells pool.old }
     {
         match item {
@@ -191,9 +189,9 @@ impl Terminal {
         pool: &mut Pool,
     ) -> Answer
         requires { self.old.stage ≡ Stage.Open }
-        ensures keeps { Keeps self.old self.new }
+        ensures keeps { KeepsSession self.old self.new }
         ensures judged { (b : List ℕ) → length ≡ min (length_of b) 251 → self.old.scanner.kept ≡ take 250 b
-            → IsJudged (directory_of settings.now) self.old self.new (a_block b end sum_ok) result pool.old pool.new }
+            → IsItemJudged (directory_of settings.now) self.old self.new (a_block b end sum_ok) result pool.old pool.new }
         ensures cells_stay { cells pool.new ≡ cells pool.old }
     {
         if !sum_ok {

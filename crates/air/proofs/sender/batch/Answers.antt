@@ -1,7 +1,7 @@
 use Rattle.std.proofs.Common.{◌≡◌, ◌<◌, ℕ, List, [], ◌∷◌, ◌++◌, length, take, refl, sym, ◌∙◌, ap, subst, arith, append-nil}
 use Rattle.std.proofs.lemmas.List.{length-map, length-take-le}
 use Rattle.codeword.specs.declared.words.TheConstants.{SYNC}
-use Rattle.scheduler.specs.Pooled.{Stands, slots_left}
+use Rattle.scheduler.specs.Pooled.{ScheduleStands, slots_left}
 use Rattle.scheduler.specs.Said.{word_in}
 use Rattle.scheduler.specs.declared.slots.Slot.{Slot}
 use Rattle.air.proofs.Taking.{drop-more, given-more, Keeps-same, Keeps-then, one_head, some-left, words-more}
@@ -12,7 +12,7 @@ loop-init g c = record {
   lends = refl;
   words = c.push.ensures.items ∙ ap (λ l. l ++ SYNC ∷ []) c.new-words.ensures;
   left = refl;
-  stands = λ a h s. subst (λ (l : List Slot). Stands a l c.args.schedule.now) (sym (append-nil h)) s;
+  stands = λ a h s. subst (λ (l : List Slot). ScheduleStands a l c.args.schedule.now) (sym (append-nil h)) s;
   keeps = Keeps-same _;
   later = omega arith;
   heads = omega arith;
@@ -43,7 +43,7 @@ loop-preserved g c =
       lends = s.lends ∙ i.lends;
       words = words-more _ _ (slots_left c.args.schedule.now) _ _ c.loop.counter _ c.slot.result i.left s.gives i.words c.word.ensures c.push-in-loop.ensures.items;
       left = drop-more (slots_left c.args.schedule.now) _ _ c.loop.counter c.slot.result i.left s.gives;
-      stands = λ a h x. subst (λ (l : List Slot). Stands a l c.slot.new.self)
+      stands = λ a h x. subst (λ (l : List Slot). ScheduleStands a l c.slot.new.self)
           (given-more h (slots_left c.args.schedule.now) _ _ c.loop.counter c.slot.result i.left s.gives) (s.stands a (h ++ take c.loop.counter (slots_left c.args.schedule.now)) (i.stands a h x));
       keeps = Keeps-then _ _ _ i.keeps s.keeps;
       later = omega (arith, i.later, s.heads);
@@ -58,7 +58,7 @@ returns g c =
       lends = i.lends;
       words = rw all at i.words;
       left = rw all at i.left;
-      stands = λ a h x. subst (λ (n : ℕ). Stands a (h ++ take n (slots_left c.args.schedule.now)) c.loop.schedule) all (i.stands a h x);
+      stands = λ a h x. subst (λ (n : ℕ). ScheduleStands a (h ++ take n (slots_left c.args.schedule.now)) c.loop.schedule) all (i.stands a h x);
       keeps = i.keeps;
       later = i.later;
       heads = omega (arith, i.heads);

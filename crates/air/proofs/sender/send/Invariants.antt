@@ -1,13 +1,13 @@
 use Rattle.std.proofs.Common.{◌≡◌, ◌+◌, ◌*◌, ◌≤◌, List, ◌++◌, Ok, length, take, drop}
 use Rattle.bits.specs.Bits.{words_bits}
 use Rattle.page_text.specs.Page.{Page}
-use Rattle.scheduler.specs.Sendings.{Keeps}
-use Rattle.scheduler.specs.Pooled.{Stands, lender, pool_of, slots_left}
+use Rattle.scheduler.specs.Sendings.{KeepsPool}
+use Rattle.scheduler.specs.Pooled.{ScheduleStands, lender, pool_of, slots_left}
 use Rattle.scheduler.specs.declared.slots.Slot.{Slot}
 use Rattle.wires.specs.declared.Failed.{Failed}
 use Rattle.wires.specs.Written.{Puts}
 use Rattle.air.specs.Air.{batches, preamble}
-use Rattle.air.specs.Sends.{words_of}
+use Rattle.air.specs.Sends.{words_of_slots}
 use Rattle.air.proofs.sender.send.Given as goal
 
 abbrev pub invariant-loop-schedule : goal.invariant-loop-schedule
@@ -16,10 +16,10 @@ invariant-loop-schedule g l = record {
   left : slots_left l.schedule ≡ drop (16 * l.batches) (slots_left l.fn.schedule);
   within : 16 * l.batches ≤ length (slots_left l.fn.schedule);
   puts : Puts {T = Unit {0}} {E = Failed} (g.K.BitSink.state l.fn.sink) (g.K.BitSink.state l.sink)
-      (words_bits (preamble ++ batches l.batches (words_of (slots_left l.fn.schedule)))) (Ok tt);
-  stands : (accepted : List Page) (given : List Slot) → Stands accepted given l.fn.schedule
-      → Stands accepted (given ++ take (16 * l.batches) (slots_left l.fn.schedule)) l.schedule;
-  keeps : Keeps (pool_of l.fn.schedule) (pool_of l.schedule);
+      (words_bits (preamble ++ batches l.batches (words_of_slots (slots_left l.fn.schedule)))) (Ok tt);
+  stands : (accepted : List Page) (given : List Slot) → ScheduleStands accepted given l.fn.schedule
+      → ScheduleStands accepted (given ++ take (16 * l.batches) (slots_left l.fn.schedule)) l.schedule;
+  keeps : KeepsPool (pool_of l.fn.schedule) (pool_of l.schedule);
   later : l.fn.steps ≤ l.steps;
   heads : l.steps ≤ l.fn.steps + 16 * l.batches;
 }

@@ -1,6 +1,6 @@
 use Rattle.std.proofs.Common.{◌++◌, ◌<◌, take, length-append, arith}
 use Rattle.std.proofs.lemmas.List.{length-take-le}
-use Rattle.calling.proofs.CallEnds.{deaf, hears_more, silent, too_long}
+use Rattle.calling.proofs.CallEnds.{hear_failed, hears_more, silent, too_long}
 use Rattle.calling.proofs.conversing.hold.Goals as goal
 
 pub returns-in-Ok-eq0 : goal.returns-in-Ok-eq0
@@ -11,7 +11,7 @@ returns-in-Ok-eq0 g c = λ first u.
 pub returns-in-Err : goal.returns-in-Err
 returns-in-Err g c = λ first u.
     let v = c.loop.invariant first u in
-    deaf _ _ _ _ _ _ _ _ _ _ _ v.1 c.in-Err.ensures c.logon-in-Err.ensures
+    hear_failed _ _ _ _ _ _ _ _ _ _ _ v.1 c.in-Err.ensures c.logon-in-Err.ensures
 
 pub returns : goal.returns
 returns g c = λ first u.

@@ -1,6 +1,6 @@
 use Rattle.std.proofs.Common.{◌≡◌, ◌+◌, ◌∷◌, [], ◌++◌, ◌<◌, List, append_assoc, drop, drop-cons, length, length-append, suc, sym, ◌∙◌, ap, arith}
 use Rattle.std.proofs.lemmas.Grind.{common_steps}
-use Rattle.tap_entry.specs.Client.{Page, all_are}
+use Rattle.tap_entry.specs.Client.{PageToSend, all_are}
 use Rattle.tap_entry.specs.PagesFile.{no_page}
 use Rattle.calling.proofs.outcome_lines.fill.Goals as goal
 
@@ -12,7 +12,7 @@ loop-preserved c =
     let n = c.note.ensures (omega (arith, i.many, lt, few, c.count-end.ensures.value)) in
     let d = drop-cons c.args.pages.now.pages c.loop.counter no_page lt in
     record {
-      all = i.all ∙ (ap (λ (z : List Page). c.loop.done.items ++ all_are c.args.outcome z) d
+      all = i.all ∙ (ap (λ (z : List PageToSend). c.loop.done.items ++ all_are c.args.outcome z) d
           ∙ (sym (append_assoc c.loop.done.items (c.args.outcome ∷ []) (all_are c.args.outcome (drop (suc c.loop.counter) c.args.pages.now.pages)))
           ∙ (ap (λ (z : List _). z ++ all_are c.args.outcome (drop (suc c.loop.counter) c.args.pages.now.pages)) (sym n)
           ∙ ap (λ k. c.note.new.done.items ++ all_are c.args.outcome (drop k c.args.pages.now.pages)) (let e : suc c.loop.counter ≡ c.loop.counter + 1 = omega arith in e))));

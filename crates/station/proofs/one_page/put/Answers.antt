@@ -1,10 +1,10 @@
 use Rattle.std.proofs.Common.{◌≡◌, List, [], ◌∷◌, ◌++◌, map, Result, Ok, Err, IsErr, OnOk, ◌∙◌, ap, arith}
 use Rattle.page_text.specs.Page.{Page}
-use Rattle.page_pool.specs.Pool.{Live, Pool, Puts, pages}
+use Rattle.page_pool.specs.Pool.{Live, Pool, PutsPage, pages}
 use Rattle.station.proofs.one_page.put.Goals as goal
 
 -- a page that was put into an empty pool is its one page
-put_alone : {E : Type 0} (old new : Pool) (page : Page) (r : Result (Unit {0}) E) → old.live ≡ [] → (IsErr r → ⊥) → OnOk r (Puts old new page) → pages new ≡ page ∷ []
+put_alone : {E : Type 0} (old new : Pool) (page : Page) (r : Result (Unit {0}) E) → old.live ≡ [] → (IsErr r → ⊥) → OnOk r (PutsPage old new page) → pages new ≡ page ∷ []
 put_alone old new page (Ok x) none ok h =
     let live : new.live ≡ h.entry ∷ [] = h.at_end ∙ ap (λ (l : List Live). l ++ h.entry ∷ []) none in
     ap (map (λ (e : Live). e.page)) live ∙ ap (λ (p : Page). p ∷ []) h.is

@@ -2,7 +2,8 @@ use Rattle.std.proofs.Common.{◌≡◌, arith, ap, sym, ◌∙◌}
 use Rattle.std.proofs.lemmas.Grind.{common_steps}
 use Rattle.std.proofs.lemmas.List.{get_or_default}
 use Rattle.std.proofs.lemmas.List.Edits.{map_over_more}
-use Rattle.tap_block.specs.Chars.{char_of, characters}
+use Rattle.entry_line.specs.Chars.{char_of}
+use Rattle.tap_block.specs.Chars.{characters}
 use Rattle.station.proofs.OnePages.{characters-characters}
 use Rattle.station.proofs.one_page.to_characters.Goals as goal
 

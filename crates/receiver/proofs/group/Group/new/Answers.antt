@@ -7,7 +7,7 @@ pub loop-number-preserved : goal.loop-number-preserved
 loop-number-preserved c =
     let item = c.loop-number-item.result in
     record {
-      usable = key_usable (keys c.loop-number.holders) (keys c.add_holder.new.holders) item.1 c.add_holder.ensures.usable c.in_default.ensures.keys c.loop-number.invariant.usable;
+      usable = key_usable (keys c.loop-number.sets) (keys c.add_holder.new.holders) item.1 c.add_holder.ensures.usable c.in_default.ensures.keys c.loop-number.invariant.usable;
       capcodes = λ q. c.in_default.ensures.keys q ∙ ap (λ (b : Bool). b || (item.1 == q)) (c.loop-number.invariant.capcodes q)
           ∙ listed_more c.args.pairs.now c.loop-number.number-index item c.loop-number-test.true c.loop-number-item.is q;
       has = λ n q. c.in_default.ensures.has n q ∙ ap (λ (b : Bool). b || ((item.0 == n) && (item.1 == q))) (c.loop-number.invariant.has n q)

@@ -8,7 +8,7 @@ use Rattle.receiver.proofs.group.Group.new.Given as goal
 -- the receivers and capcodes so far are those of the pairs so far
 abbrev pub invariant-loop-number : goal.invariant-loop-number
 invariant-loop-number l = record {
-  usable : (c : ℕ) → is_one_of (keys l.holders) c ≡ true → IsUsable c;
-  capcodes : (c : ℕ) → is_one_of (keys l.holders) c ≡ is_listed (take l.number-index l.pairs) c;
-  has : (n c : ℕ) → has_in l.holders.entries n c ≡ is_paired (take l.number-index l.pairs) n c;
+  usable : (c : ℕ) → is_one_of (keys l.sets) c ≡ true → IsUsable c;
+  capcodes : (c : ℕ) → is_one_of (keys l.sets) c ≡ is_listed (take l.number-index l.pairs) c;
+  has : (n c : ℕ) → has_in l.sets.entries n c ≡ is_paired (take l.number-index l.pairs) n c;
 }

@@ -1,51 +1,93 @@
-use Rattle.std.proofs.Common.{List, subst, rules}
+use Rattle.std.proofs.Common.{List, [], refl, subst, rules}
 use Rattle.receiver.specs.Heard.{HeardPage}
-use Rattle.receiver.specs.Listeners.{ready_pages}
-use Rattle.receiver.proofs.Pieces.{Fed, fed_then, fed_none, none_ready}
+use Rattle.receiver.specs.Listeners.{Listener, listener_of, ready_pages}
+use Rattle.wires.specs.Pieces.{taken_of}
+use Rattle.receiver.proofs.Last.{last_page}
+use Rattle.receiver.proofs.Meets.{Met, fed_met}
+use Rattle.receiver.proofs.Pieces.{Fed, fed_then, fed_none, none_ready, some_less}
 use Rattle.receiver.proofs.receiver.Receiver.feed_piece.Goals as goal
+
+pub returns-in-Some-clause-capcodes : goal.returns-in-Some-clause-capcodes
+returns-in-Some-clause-capcodes c =
+    let before = listener_of c.loop-page.self-inside.front c.loop-page.self-inside.capcodes [] c.loop-page.self-inside.gathering in
+    let after = listener_of c.feed_piece-event.new.self c.loop-page.self-inside.capcodes [] c.meet.new.self in
+    let met : Met before after c.feed_piece-event.result (taken_of c.loop-page.piece c.feed_piece-event.new.piece) = record { capcodes = refl; hears = c.feed_piece-event.ensures.hears; page = c.meet.ensures.page; ready = c.meet.ensures.ready } in
+    let all = fed_then _ _ _ _ _ _ _ c.loop-page.invariant (fed_met before after c.feed_piece-event.result c.loop-page.piece c.feed_piece-event.new.piece met refl c.feed_piece-event.ensures.whole) in
+    all.capcodes
 
 pub returns-in-Some-clause-stands : goal.returns-in-Some-clause-stands
 returns-in-Some-clause-stands c =
-    let met : Fed c.loop-page.self c.meet.new.self c.loop-page.piece c.meet.new.piece (ready_pages c.meet.new.self.ready) = record { whole = c.meet.ensures.whole; capcodes = c.meet.ensures.capcodes; holders = c.meet.ensures.holders; stands = c.meet.ensures.stands; page = c.meet.ensures.page } in
-    let all = fed_then _ _ _ _ _ _ _ c.loop-page.invariant met in
+    let before = listener_of c.loop-page.self-inside.front c.loop-page.self-inside.capcodes [] c.loop-page.self-inside.gathering in
+    let after = listener_of c.feed_piece-event.new.self c.loop-page.self-inside.capcodes [] c.meet.new.self in
+    let met : Met before after c.feed_piece-event.result (taken_of c.loop-page.piece c.feed_piece-event.new.piece) = record { capcodes = refl; hears = c.feed_piece-event.ensures.hears; page = c.meet.ensures.page; ready = c.meet.ensures.ready } in
+    let all = fed_then _ _ _ _ _ _ _ c.loop-page.invariant (fed_met before after c.feed_piece-event.result c.loop-page.piece c.feed_piece-event.new.piece met refl c.feed_piece-event.ensures.whole) in
     all.stands
 
 pub returns-in-Some-clause-page : goal.returns-in-Some-clause-page
 returns-in-Some-clause-page c =
-    let met : Fed c.loop-page.self c.meet.new.self c.loop-page.piece c.meet.new.piece (ready_pages c.meet.new.self.ready) = record { whole = c.meet.ensures.whole; capcodes = c.meet.ensures.capcodes; holders = c.meet.ensures.holders; stands = c.meet.ensures.stands; page = c.meet.ensures.page } in
-    let all = fed_then _ _ _ _ _ _ _ c.loop-page.invariant met in
+    let before = listener_of c.loop-page.self-inside.front c.loop-page.self-inside.capcodes [] c.loop-page.self-inside.gathering in
+    let after = listener_of c.feed_piece-event.new.self c.loop-page.self-inside.capcodes [] c.meet.new.self in
+    let met : Met before after c.feed_piece-event.result (taken_of c.loop-page.piece c.feed_piece-event.new.piece) = record { capcodes = refl; hears = c.feed_piece-event.ensures.hears; page = c.meet.ensures.page; ready = c.meet.ensures.ready } in
+    let all = fed_then _ _ _ _ _ _ _ c.loop-page.invariant (fed_met before after c.feed_piece-event.result c.loop-page.piece c.feed_piece-event.new.piece met refl c.feed_piece-event.ensures.whole) in
     all.page
 
 pub returns-in-Some-clause-whole : goal.returns-in-Some-clause-whole
 returns-in-Some-clause-whole c =
-    let met : Fed c.loop-page.self c.meet.new.self c.loop-page.piece c.meet.new.piece (ready_pages c.meet.new.self.ready) = record { whole = c.meet.ensures.whole; capcodes = c.meet.ensures.capcodes; holders = c.meet.ensures.holders; stands = c.meet.ensures.stands; page = c.meet.ensures.page } in
-    let all = fed_then _ _ _ _ _ _ _ c.loop-page.invariant met in
+    let before = listener_of c.loop-page.self-inside.front c.loop-page.self-inside.capcodes [] c.loop-page.self-inside.gathering in
+    let after = listener_of c.feed_piece-event.new.self c.loop-page.self-inside.capcodes [] c.meet.new.self in
+    let met : Met before after c.feed_piece-event.result (taken_of c.loop-page.piece c.feed_piece-event.new.piece) = record { capcodes = refl; hears = c.feed_piece-event.ensures.hears; page = c.meet.ensures.page; ready = c.meet.ensures.ready } in
+    let all = fed_then _ _ _ _ _ _ _ c.loop-page.invariant (fed_met before after c.feed_piece-event.result c.loop-page.piece c.feed_piece-event.new.piece met refl c.feed_piece-event.ensures.whole) in
     all.whole
+
+pub returns-in-Some-clause-last : goal.returns-in-Some-clause-last
+returns-in-Some-clause-last c = last_page _ _ _ _ _ c.loop-page.invariant c.feed_piece-event.ensures.whole c.feed_piece-event.ensures.last_page
+
+pub returns-in-Some-clause-some : goal.returns-in-Some-clause-some
+returns-in-Some-clause-some c = some_less _ _ _ c.loop-page.invariant.whole c.feed_piece-event.ensures.whole c.feed_piece-event.ensures.some
+
+pub returns-then-is_empty-clause-capcodes : goal.returns-then-is_empty-clause-capcodes
+returns-then-is_empty-clause-capcodes c =
+    let before = listener_of c.loop-page.self-inside.front c.loop-page.self-inside.capcodes [] c.loop-page.self-inside.gathering in
+    let after = listener_of c.feed_piece-event.new.self c.loop-page.self-inside.capcodes [] c.meet.new.self in
+    let met : Met before after c.feed_piece-event.result (taken_of c.loop-page.piece c.feed_piece-event.new.piece) = record { capcodes = refl; hears = c.feed_piece-event.ensures.hears; page = c.meet.ensures.page; ready = c.meet.ensures.ready } in
+    let all = fed_then _ _ _ _ _ _ _ c.loop-page.invariant (fed_met before after c.feed_piece-event.result c.loop-page.piece c.feed_piece-event.new.piece met refl c.feed_piece-event.ensures.whole) in
+    all.capcodes
 
 pub returns-then-is_empty-clause-stands : goal.returns-then-is_empty-clause-stands
 returns-then-is_empty-clause-stands c =
-    let met : Fed c.loop-page.self c.meet.new.self c.loop-page.piece c.meet.new.piece (ready_pages c.meet.new.self.ready) = record { whole = c.meet.ensures.whole; capcodes = c.meet.ensures.capcodes; holders = c.meet.ensures.holders; stands = c.meet.ensures.stands; page = c.meet.ensures.page } in
-    let all = fed_then _ _ _ _ _ _ _ c.loop-page.invariant met in
+    let before = listener_of c.loop-page.self-inside.front c.loop-page.self-inside.capcodes [] c.loop-page.self-inside.gathering in
+    let after = listener_of c.feed_piece-event.new.self c.loop-page.self-inside.capcodes [] c.meet.new.self in
+    let met : Met before after c.feed_piece-event.result (taken_of c.loop-page.piece c.feed_piece-event.new.piece) = record { capcodes = refl; hears = c.feed_piece-event.ensures.hears; page = c.meet.ensures.page; ready = c.meet.ensures.ready } in
+    let all = fed_then _ _ _ _ _ _ _ c.loop-page.invariant (fed_met before after c.feed_piece-event.result c.loop-page.piece c.feed_piece-event.new.piece met refl c.feed_piece-event.ensures.whole) in
     all.stands
 
 pub returns-then-is_empty-clause-page : goal.returns-then-is_empty-clause-page
 returns-then-is_empty-clause-page c =
-    let met : Fed c.loop-page.self c.meet.new.self c.loop-page.piece c.meet.new.piece (ready_pages c.meet.new.self.ready) = record { whole = c.meet.ensures.whole; capcodes = c.meet.ensures.capcodes; holders = c.meet.ensures.holders; stands = c.meet.ensures.stands; page = c.meet.ensures.page } in
-    let all = fed_then _ _ _ _ _ _ _ c.loop-page.invariant met in
+    let before = listener_of c.loop-page.self-inside.front c.loop-page.self-inside.capcodes [] c.loop-page.self-inside.gathering in
+    let after = listener_of c.feed_piece-event.new.self c.loop-page.self-inside.capcodes [] c.meet.new.self in
+    let met : Met before after c.feed_piece-event.result (taken_of c.loop-page.piece c.feed_piece-event.new.piece) = record { capcodes = refl; hears = c.feed_piece-event.ensures.hears; page = c.meet.ensures.page; ready = c.meet.ensures.ready } in
+    let all = fed_then _ _ _ _ _ _ _ c.loop-page.invariant (fed_met before after c.feed_piece-event.result c.loop-page.piece c.feed_piece-event.new.piece met refl c.feed_piece-event.ensures.whole) in
     all.page
 
 pub returns-then-is_empty-clause-whole : goal.returns-then-is_empty-clause-whole
 returns-then-is_empty-clause-whole c =
-    let met : Fed c.loop-page.self c.meet.new.self c.loop-page.piece c.meet.new.piece (ready_pages c.meet.new.self.ready) = record { whole = c.meet.ensures.whole; capcodes = c.meet.ensures.capcodes; holders = c.meet.ensures.holders; stands = c.meet.ensures.stands; page = c.meet.ensures.page } in
-    let all = fed_then _ _ _ _ _ _ _ c.loop-page.invariant met in
+    let before = listener_of c.loop-page.self-inside.front c.loop-page.self-inside.capcodes [] c.loop-page.self-inside.gathering in
+    let after = listener_of c.feed_piece-event.new.self c.loop-page.self-inside.capcodes [] c.meet.new.self in
+    let met : Met before after c.feed_piece-event.result (taken_of c.loop-page.piece c.feed_piece-event.new.piece) = record { capcodes = refl; hears = c.feed_piece-event.ensures.hears; page = c.meet.ensures.page; ready = c.meet.ensures.ready } in
+    let all = fed_then _ _ _ _ _ _ _ c.loop-page.invariant (fed_met before after c.feed_piece-event.result c.loop-page.piece c.feed_piece-event.new.piece met refl c.feed_piece-event.ensures.whole) in
     all.whole
 
+pub returns-then-is_empty-clause-last : goal.returns-then-is_empty-clause-last
+returns-then-is_empty-clause-last c = last_page _ _ _ _ _ c.loop-page.invariant c.feed_piece-event.ensures.whole c.feed_piece-event.ensures.last_page
+
 pub loop-page-init : goal.loop-page-init
-loop-page-init c = fed_none c.args.self.now c.args.piece.now
+loop-page-init c = subst (λ (l : Listener). Fed l (listener_of c.self.inside.front c.self.inside.capcodes [] c.self.inside.gathering) c.args.piece.now c.args.piece.now []) c.self.view_is (fed_none (listener_of c.self.inside.front c.self.inside.capcodes [] c.self.inside.gathering) c.args.piece.now)
 
 pub loop-page-preserved : goal.loop-page-preserved
 loop-page-preserved c =
-    let met : Fed c.loop-page.self c.meet.new.self c.loop-page.piece c.meet.new.piece (ready_pages c.meet.new.self.ready) = record { whole = c.meet.ensures.whole; capcodes = c.meet.ensures.capcodes; holders = c.meet.ensures.holders; stands = c.meet.ensures.stands; page = c.meet.ensures.page } in
-    let all = fed_then _ _ _ _ _ _ _ c.loop-page.invariant met in
+    let before = listener_of c.loop-page.self-inside.front c.loop-page.self-inside.capcodes [] c.loop-page.self-inside.gathering in
+    let after = listener_of c.feed_piece-event.new.self c.loop-page.self-inside.capcodes [] c.meet.new.self in
+    let met : Met before after c.feed_piece-event.result (taken_of c.loop-page.piece c.feed_piece-event.new.piece) = record { capcodes = refl; hears = c.feed_piece-event.ensures.hears; page = c.meet.ensures.page; ready = c.meet.ensures.ready } in
+    let all = fed_then _ _ _ _ _ _ _ c.loop-page.invariant (fed_met before after c.feed_piece-event.result c.loop-page.piece c.feed_piece-event.new.piece met refl c.feed_piece-event.ensures.whole) in
     let nothing = none_ready c.meet.result c.meet.new.self.ready (search rules) c.meet.ensures.answer in
-    subst (λ (pages : List HeardPage). Fed c.args.self.now c.meet.new.self c.args.piece.now c.meet.new.piece pages) nothing all
+    subst (λ (pages : List HeardPage). Fed c.args.self.now after c.args.piece.now c.feed_piece-event.new.piece pages) nothing all

@@ -4,19 +4,19 @@ use Rattle.subscribers.specs.Parts.{Parts}
 use Rattle.std.specs.Prelude.{Option}
 use Rattle.page_pool.specs.Pool.{cells}
 use Rattle.subscribers.specs.Directory.{directory_of}
-use Rattle.tap_terminal.specs.Desk.{Stands, unheard}
+use Rattle.tap_terminal.specs.State.{Stands, unheard}
 use Rattle.serving.specs.Answering.{Answering, StoppedUnprinted}
-use Rattle.serving.specs.Hall.{Hall}
+use Rattle.serving.specs.StationState.{StationState}
 use Rattle.serving.proofs.Answered.{answered_all, answered_broken, answered_to_end, begins, course_ends, course_goes, few_taken, takes_more}
 use Rattle.serving.proofs.session.Station.answer_input.Goals as goal
 
 pub loop-init : goal.loop-init
 loop-init g c = record {
-  settings = ap (λ (h : Hall). h.settings) c.self.view_is;
-  cells_stay = ap (λ (h : Hall). cells h.pool) c.self.view_is;
+  settings = ap (λ (h : StationState). h.settings) c.self.view_is;
+  cells_stay = ap (λ (h : StationState). cells h.pool) c.self.view_is;
   so_far = (
     [],
-    subst (λ (h : Hall). Answering h.settings h.pool.spare (g.I.Source.state c.args.input.now) (g.I.Source.state c.args.input.now) h.pool c.self.inside.pool c.begin.new.self
+    subst (λ (h : StationState). Answering h.settings h.pool.spare (g.I.Source.state c.args.input.now) (g.I.Source.state c.args.input.now) h.pool c.self.inside.pool c.begin.new.self
         (g.O.Sink.state c.args.out.now) (g.O.Sink.state c.args.out.now) [] []) c.self.view_is (begins _ _ c.self.inside.pool _ _
         (subst (λ (password : Option (List ℕ)). Stands password (directory_of c.self.inside.settings) c.self.inside.pool.spare c.begin.new.self [] unheard c.self.inside.pool.spare) c.self.invariant.password
         (c.begin.ensures.stands (directory_of c.self.inside.settings) c.self.inside.pool.spare))),

@@ -1,6 +1,6 @@
 use Rattle.std.proofs.Common.{List, Option, [], subst}
 use Rattle.subscribers.specs.Directory.{directory_of}
-use Rattle.tap_terminal.specs.Desk.{Stands, unheard}
+use Rattle.tap_terminal.specs.State.{Stands, unheard}
 use Rattle.serving.proofs.session.Station.new.Goals as goal
 
 pub returns-clause-unheard : goal.returns-clause-unheard

@@ -1,30 +1,30 @@
 use Rattle.std.proofs.Common.{[], inl, refl, ap, ◌∙◌, arith}
-use Rattle.serving.specs.Hall.{Hall}
+use Rattle.serving.specs.StationState.{StationState}
 use Rattle.serving.proofs.Servings.{all_served, at_fresh, at_listen, begun, all_spare}
 use Rattle.serving.proofs.session.Station.serve.Goals as goal
 
 pub returns-in-Err-clause-serves : goal.returns-in-Err-clause-serves
 returns-in-Err-clause-serves g c = record {
   served = inl (at_fresh _ _ _ _ _ _ _ _ _ c.in-Err.ensures);
-  leaves = (c.clear.ensures.live, ap (λ (h : Hall). h.desk) c.self.view_is);
+  leaves = (c.clear.ensures.live, ap (λ (h : StationState). h.desk) c.self.view_is);
 }
 
 pub returns-in-Err-listen-clause-serves : goal.returns-in-Err-listen-clause-serves
 returns-in-Err-listen-clause-serves g c = record {
   served = at_listen _ _ _ _ _ _ _ _ _ _ _ _ c.in_default.ensures c.in-Err-listen.ensures;
-  leaves = record { no_page = c.clear.ensures.live; last = ap (λ (h : Hall). h.desk) c.self.view_is };
+  leaves = record { no_page = c.clear.ensures.live; last = ap (λ (h : StationState). h.desk) c.self.view_is };
 }
 
 pub loop-k-init : goal.loop-k-init
 loop-k-init g c =
-    let spare = c.clear.ensures.spare ∙ (c.self.invariant.cells_are ∙ ap (λ (h : Hall). h.settings.cells) c.self.view_is) in
+    let spare = c.clear.ensures.spare ∙ (c.self.invariant.cells_are ∙ ap (λ (h : StationState). h.settings.cells) c.self.view_is) in
     record {
-      settings = ap (λ (h : Hall). h.settings) c.self.view_is;
+      settings = ap (λ (h : StationState). h.settings) c.self.view_is;
       cells_are = all_spare c.clear.new.self c.clear.ensures.live ∙ spare;
       so_far = (
         [],
         begun _ _ _ _ _ _ _ _ _ _ c.clear.new.self _ _ c.in_default.ensures c.in_default-listen.ensures c.clear.ensures.live spare,
-        ap (λ (h : Hall). h.desk) c.self.view_is,
+        ap (λ (h : StationState). h.desk) c.self.view_is,
         refl,
       );
     }

@@ -1,5 +1,5 @@
 use Rattle.std.proofs.Common.{true, false, ◌∙◌, arith, inr, refl, sym}
-use Rattle.serving.specs.Hall.{hall_of}
+use Rattle.serving.specs.StationState.{station_state_of}
 use Rattle.serving.proofs.Servings.{at_append_fault, at_done, at_out_fault, at_wire_fault, closes_here, last_desk, one_more, opened_so, ran_here, stands_here}
 use Rattle.serving.proofs.session.Station.serve_next.Goals as goal
 
@@ -22,7 +22,7 @@ returns-in-Err-send-clause-further g c = λ settings spare most first begun addr
     let mid = g.W.Wire.state c.next.new.self in
     let after = g.W.Wire.state c.session-end.new.wire in
     let was = c.args.self.now in
-    let now = hall_of c.self.inside in
+    let now = station_state_of c.self.inside in
     let opened = opened_so _ mid _ true c.in-Ok-true.field-0-test c.in-Ok-true.ensures in
     let ran = ran_here settings spare mid after was now c.session-end.new.self _ e so.all_spare c.self.view_is c.session-end.ensures.ran in
     let closes = closes_here settings spare mid after was e so.all_spare c.session-end.ensures.closes in
@@ -36,7 +36,7 @@ returns-in-Err-put_report-clause-further g c = λ settings spare most first begu
     let mid = g.W.Wire.state c.next.new.self in
     let after = g.W.Wire.state c.session-end.new.wire in
     let was = c.args.self.now in
-    let now = hall_of c.self.inside in
+    let now = station_state_of c.self.inside in
     let opened = opened_so _ mid _ true c.in-Ok-true.field-0-test c.in-Ok-true.ensures in
     let ran = ran_here settings spare mid after was now c.session-end.new.self _ e so.all_spare c.self.view_is c.session-end.ensures.ran in
     let closes = closes_here settings spare mid after was e so.all_spare c.session-end.ensures.closes in
@@ -49,7 +49,7 @@ returns-clause-further g c = λ settings spare most first begun address ss e so 
     let mid = g.W.Wire.state c.next.new.self in
     let after = g.W.Wire.state c.session-end.new.wire in
     let was = c.args.self.now in
-    let now = hall_of c.self.inside in
+    let now = station_state_of c.self.inside in
     let opened = opened_so _ mid _ true c.in-Ok-true.field-0-test c.in-Ok-true.ensures in
     let ran = ran_here settings spare mid after was now c.session-end.new.self _ e so.all_spare c.self.view_is c.session-end.ensures.ran in
     let closes = closes_here settings spare mid after was e so.all_spare c.session-end.ensures.closes in

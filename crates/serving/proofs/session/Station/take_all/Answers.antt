@@ -1,5 +1,5 @@
 use Rattle.std.proofs.Common.{ℕ, List, drop, subst, drop-cons, add-one, ◌<◌, length, ◌∙◌, suc}
-use Rattle.serving.specs.Sessions.{UnderWay}
+use Rattle.serving.specs.Sessions.{SessionUnderWay}
 use Rattle.serving.proofs.session.Station.take_all.Goals as goal
 
 pub loop-byte-preserved : goal.loop-byte-preserved
@@ -9,7 +9,7 @@ loop-byte-preserved g c = record {
   on = λ spare first before heard u.
       let lt : c.loop-byte.byte-index < length c.args.bytes.now = c.loop-byte-test.true in
       let v = c.loop-byte.invariant.on spare first before heard u in
-      let w = subst (λ (z : List ℕ). UnderWay c.loop-byte.self.settings spare first (g.W.Wire.state c.loop-byte.wire) before c.loop-byte.self.pool c.loop-byte.self.desk heard z) (drop-cons c.args.bytes.now c.loop-byte.byte-index 0 lt) v in
+      let w = subst (λ (z : List ℕ). SessionUnderWay c.loop-byte.self.settings spare first (g.W.Wire.state c.loop-byte.wire) before c.loop-byte.self.pool c.loop-byte.self.desk heard z) (drop-cons c.args.bytes.now c.loop-byte.byte-index 0 lt) v in
       rw add-one (c.in_default.ensures.on spare first before heard (drop (suc c.loop-byte.byte-index) c.args.bytes.now) w);
 }
 
@@ -17,5 +17,5 @@ pub returns-in-Some-clause-on : goal.returns-in-Some-clause-on
 returns-in-Some-clause-on g c = λ spare first before heard u.
     let lt : c.loop-byte.byte-index < length c.args.bytes.now = c.loop-byte-test.true in
     let v = c.loop-byte.invariant.on spare first before heard u in
-    let w = subst (λ (z : List ℕ). UnderWay c.loop-byte.self.settings spare first (g.W.Wire.state c.loop-byte.wire) before c.loop-byte.self.pool c.loop-byte.self.desk heard z) (drop-cons c.args.bytes.now c.loop-byte.byte-index 0 lt) v in
+    let w = subst (λ (z : List ℕ). SessionUnderWay c.loop-byte.self.settings spare first (g.W.Wire.state c.loop-byte.wire) before c.loop-byte.self.pool c.loop-byte.self.desk heard z) (drop-cons c.args.bytes.now c.loop-byte.byte-index 0 lt) v in
     c.in-Some.ensures.on spare first before heard (drop (suc c.loop-byte.byte-index) c.args.bytes.now) w

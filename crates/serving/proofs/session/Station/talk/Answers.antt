@@ -1,7 +1,7 @@
 use Rattle.std.proofs.Common.{◌++◌, ◌∙◌, ◌<◌, take, length-append, arith}
 use Rattle.std.proofs.lemmas.List.{length-take-le}
 use Rattle.serving.proofs.Steps.{hears_more}
-use Rattle.serving.proofs.Stops.{deaf, silent, too_long}
+use Rattle.serving.proofs.Stops.{hear_failed, silent, too_long}
 use Rattle.serving.proofs.session.Station.talk.Goals as goal
 
 pub returns-in-Ok-eq0-clause-ran : goal.returns-in-Ok-eq0-clause-ran
@@ -12,7 +12,7 @@ returns-in-Ok-eq0-clause-ran g c = λ spare first before u.
 pub returns-in-Err-clause-ran : goal.returns-in-Err-clause-ran
 returns-in-Err-clause-ran g c = λ spare first before u.
     let v = c.loop.invariant.on spare first before u in
-    deaf _ _ _ _ _ _ _ _ _ _ _ v.1 c.in-Err.ensures
+    hear_failed _ _ _ _ _ _ _ _ _ _ _ v.1 c.in-Err.ensures
 
 pub returns-clause-ran : goal.returns-clause-ran
 returns-clause-ran g c = λ spare first before u.

@@ -1,8 +1,8 @@
 use Rattle.std.proofs.Common.{ℕ, inl, inr, subst, refl, ap, sym, ◌∙◌}
 use Rattle.page_pool.specs.Pool.{cells, pages}
-use Rattle.tap_terminal.specs.Desk.{Desk}
+use Rattle.tap_terminal.specs.State.{TerminalState}
 use Rattle.serving.specs.Answering.{AnsweredInput, StoppedBroken, StoppedUnprinted}
-use Rattle.serving.specs.Hall.{Hall}
+use Rattle.serving.specs.StationState.{StationState}
 use Rattle.serving.specs.Leaves.{HasTried}
 use Rattle.listening.specs.PageLines.{group_lines}
 use Rattle.serving.specs.Trying.{HearsPages}
@@ -18,7 +18,7 @@ returns-in-Err-clause-tries g c =
     let spare = c.clear.ensures.spare ∙ c.self.invariant.cells_are in
     let answered = subst (λ (n : ℕ). AnsweredInput c.self.inside.settings n (g.I.Source.state c.args.input.now) (g.I.Source.state c.answer_input.new.input) c.clear.new.self c.answer_input.new.self.pool
     c.answer_input.new.self.desk (g.O.Sink.state c.args.out.now) (g.O.Sink.state c.answer_input.new.out)) spare c.in-Answered.ensures.answers in
-    subst (λ (h : Hall). HasTried h.settings h.settings.cells (group_lines c.args.group.now) (g.I.Source.state c.args.input.now) (g.I.Source.state c.answer_input.new.input)
+    subst (λ (h : StationState). HasTried h.settings h.settings.cells (group_lines c.args.group.now) (g.I.Source.state c.args.input.now) (g.I.Source.state c.answer_input.new.input)
     (g.N.BitSource.state c.args.noise.now) (g.N.BitSource.state c.args.noise.now) (g.O.Sink.state c.args.out.now) (g.O.Sink.state c.put.new.self) c.answer_input.new.self.pool c.answer_input.new.self.desk OutFault)
     c.self.view_is
     (record {
@@ -32,23 +32,23 @@ returns-clause-tries g c =
     let spare = c.clear.ensures.spare ∙ c.self.invariant.cells_are in
     let answered = subst (λ (n : ℕ). AnsweredInput c.self.inside.settings n (g.I.Source.state c.args.input.now) (g.I.Source.state c.answer_input.new.input) c.clear.new.self c.answer_input.new.self.pool
     c.answer_input.new.self.desk (g.O.Sink.state c.args.out.now) (g.O.Sink.state c.answer_input.new.out)) spare c.in-Answered.ensures.answers in
-    subst (λ (h : Hall). HasTried h.settings h.settings.cells (group_lines c.args.group.now) (g.I.Source.state c.args.input.now) (g.I.Source.state c.answer_input.new.input)
+    subst (λ (h : StationState). HasTried h.settings h.settings.cells (group_lines c.args.group.now) (g.I.Source.state c.args.input.now) (g.I.Source.state c.answer_input.new.input)
     (g.N.BitSource.state c.args.noise.now) (g.N.BitSource.state c.hear_pages.new.noise) (g.O.Sink.state c.args.out.now) (g.O.Sink.state c.hear_pages.new.out) c.hear_pages.new.pool c.self-2.inside.terminal
     c.hear_pages.result) c.self.view_is
-    (subst (λ (d : Desk). HasTried c.self.inside.settings c.self.inside.settings.cells (group_lines c.args.group.now) (g.I.Source.state c.args.input.now) (g.I.Source.state c.answer_input.new.input)
+    (subst (λ (d : TerminalState). HasTried c.self.inside.settings c.self.inside.settings.cells (group_lines c.args.group.now) (g.I.Source.state c.args.input.now) (g.I.Source.state c.answer_input.new.input)
     (g.N.BitSource.state c.args.noise.now) (g.N.BitSource.state c.hear_pages.new.noise) (g.O.Sink.state c.args.out.now) (g.O.Sink.state c.hear_pages.new.out) c.hear_pages.new.pool d c.hear_pages.result)
-    (sym (ap (λ (h : Hall). h.desk) c.self-2.view_is))
+    (sym (ap (λ (h : StationState). h.desk) c.self-2.view_is))
     (tries_heard c.self.inside.settings c.self.inside.settings.cells (group_lines c.args.group.now) _ _ c.clear.new.self c.answer_input.new.self.pool c.hear_pages.new.pool _ _ _ _ _ _ _ _ c.in_default.field-0
     c.hear_pages.result (group_lines-grow c.args.group.now) refl answered (live_none c.clear.new.self c.clear.ensures.live) c.in_default.ensures
-    (subst (λ (h : Hall). HearsPages (pages h.pool) (group_lines c.args.group.now) (g.N.BitSource.state c.args.noise.now) (g.N.BitSource.state c.hear_pages.new.noise)
+    (subst (λ (h : StationState). HearsPages (pages h.pool) (group_lines c.args.group.now) (g.N.BitSource.state c.args.noise.now) (g.N.BitSource.state c.hear_pages.new.noise)
     (g.O.Sink.state c.put.new.self) (g.O.Sink.state c.hear_pages.new.out) c.hear_pages.result) c.self-2.view_is c.hear_pages.ensures.hears)
-    (record { cells_stay = c.hear_pages.ensures.leaves.cells_stay ∙ ap (λ (h : Hall). cells h.pool) c.self-2.view_is; all = c.hear_pages.ensures.leaves.all })))
+    (record { cells_stay = c.hear_pages.ensures.leaves.cells_stay ∙ ap (λ (h : StationState). cells h.pool) c.self-2.view_is; all = c.hear_pages.ensures.leaves.all })))
 
 pub returns-in-Broken-clause-tries : goal.returns-in-Broken-clause-tries
 returns-in-Broken-clause-tries g c =
     let stopped = subst (λ (n : ℕ). StoppedBroken c.self.inside.settings n (g.I.Source.state c.args.input.now) (g.I.Source.state c.answer_input.new.input) c.clear.new.self c.answer_input.new.self.pool c.answer_input.new.self.desk (g.O.Sink.state c.args.out.now) (g.O.Sink.state c.answer_input.new.out))
     (c.clear.ensures.spare ∙ c.self.invariant.cells_are) c.in-Broken.ensures.answers in
-    subst (λ (h : Hall). HasTried h.settings h.settings.cells (group_lines c.args.group.now) (g.I.Source.state c.args.input.now) (g.I.Source.state c.answer_input.new.input) (g.N.BitSource.state c.args.noise.now) (g.N.BitSource.state c.args.noise.now) (g.O.Sink.state c.args.out.now) (g.O.Sink.state c.answer_input.new.out) c.answer_input.new.self.pool c.answer_input.new.self.desk InputFault) c.self.view_is
+    subst (λ (h : StationState). HasTried h.settings h.settings.cells (group_lines c.args.group.now) (g.I.Source.state c.args.input.now) (g.I.Source.state c.answer_input.new.input) (g.N.BitSource.state c.args.noise.now) (g.N.BitSource.state c.args.noise.now) (g.O.Sink.state c.args.out.now) (g.O.Sink.state c.answer_input.new.out) c.answer_input.new.self.pool c.answer_input.new.self.desk InputFault) c.self.view_is
     (record {
       tries = tries_broken _ _ _ _ (g.N.BitSource.state c.args.noise.now) _ _ stopped.broken;
       leaves = leaves_accepted _ _ _ _ _ _ (live_none c.clear.new.self c.clear.ensures.live) stopped.leaves;
@@ -59,7 +59,7 @@ returns-in-Unprinted-clause-tries g c =
     let taken = c.in-Unprinted.ensures.answers.0 in
     let stopped = subst (λ (n : ℕ). StoppedUnprinted c.self.inside.settings n (g.I.Source.state c.args.input.now) (g.I.Source.state c.answer_input.new.input) c.clear.new.self c.answer_input.new.self.pool c.answer_input.new.self.desk (g.O.Sink.state c.args.out.now) (g.O.Sink.state c.answer_input.new.out) taken)
     (c.clear.ensures.spare ∙ c.self.invariant.cells_are) c.in-Unprinted.ensures.answers.1 in
-    subst (λ (h : Hall). HasTried h.settings h.settings.cells (group_lines c.args.group.now) (g.I.Source.state c.args.input.now) (g.I.Source.state c.answer_input.new.input) (g.N.BitSource.state c.args.noise.now) (g.N.BitSource.state c.args.noise.now) (g.O.Sink.state c.args.out.now) (g.O.Sink.state c.answer_input.new.out) c.answer_input.new.self.pool c.answer_input.new.self.desk OutFault) c.self.view_is
+    subst (λ (h : StationState). HasTried h.settings h.settings.cells (group_lines c.args.group.now) (g.I.Source.state c.args.input.now) (g.I.Source.state c.answer_input.new.input) (g.N.BitSource.state c.args.noise.now) (g.N.BitSource.state c.args.noise.now) (g.O.Sink.state c.args.out.now) (g.O.Sink.state c.answer_input.new.out) c.answer_input.new.self.pool c.answer_input.new.self.desk OutFault) c.self.view_is
     (record {
       tries = inl (tries_unanswered _ _ _ _ (g.N.BitSource.state c.args.noise.now) _ _ taken stopped.unprinted);
       leaves = leaves_accepted _ _ _ _ _ _ (live_none c.clear.new.self c.clear.ensures.live) stopped.leaves;

@@ -1,5 +1,5 @@
-use Rattle.tap_block.specs.Chars.{char_of}
-use Rattle.tap_entry.proofs.Ears.{stands_on}
+use Rattle.entry_line.specs.Chars.{char_of}
+use Rattle.tap_entry.proofs.MarkReaders.{stands_on}
 use Rattle.tap_entry.proofs.hearing.Listener.feed.Goals as goal
 
 pub returns : goal.returns

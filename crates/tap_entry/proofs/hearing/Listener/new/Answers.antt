@@ -1,4 +1,4 @@
-use Rattle.tap_entry.proofs.Ears.{stands_nil}
+use Rattle.tap_entry.proofs.MarkReaders.{stands_nil}
 use Rattle.tap_entry.proofs.hearing.Listener.new.Goals as goal
 
 pub returns : goal.returns

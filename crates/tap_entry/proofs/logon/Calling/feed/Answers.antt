@@ -1,5 +1,5 @@
 use Rattle.std.proofs.Common.{subst, sym, refl}
-use Rattle.tap_block.specs.Chars.{char_of}
+use Rattle.entry_line.specs.Chars.{char_of}
 use Rattle.tap_entry.specs.States.{CallingFor, CallsFurther}
 use Rattle.tap_entry.proofs.Steps.{call_stands}
 use Rattle.tap_entry.proofs.logon.Calling.feed.Goals as goal

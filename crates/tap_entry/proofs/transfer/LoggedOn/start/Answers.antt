@@ -1,6 +1,6 @@
 use Rattle.std.proofs.Common.{◌≡◌, subst, sym, append_assoc}
 use Rattle.tap_entry.specs.Client.{content}
-use Rattle.tap_entry.specs.Ears.{StandsFor}
+use Rattle.tap_entry.specs.MarkReaders.{ReaderStandsFor}
 use Rattle.tap_entry.specs.Sound.{IsSound}
 use Rattle.tap_entry.proofs.Contents.{content_sound}
 use Rattle.tap_entry.proofs.Steps.{starts}
@@ -13,4 +13,4 @@ invariant_of-result c =
     subst (λ z. IsSound z 0 0) (sym e) (content_sound _ c.requires.page)
 
 pub returns-clause-stands : goal.returns-clause-stands
-returns-clause-stands c x past h = starts _ x past c.append-4.new.content.items (subst (λ z. StandsFor z x past) (sym c.self.view_is) h)
+returns-clause-stands c x past h = starts _ x past c.append-4.new.content.items (subst (λ z. ReaderStandsFor z x past) (sym c.self.view_is) h)

@@ -1,5 +1,5 @@
 use Rattle.std.proofs.Common.{subst, sym, ◌++◌}
-use Rattle.tap_block.specs.Chars.{char_of}
+use Rattle.entry_line.specs.Chars.{char_of}
 use Rattle.tap_entry.specs.States.{SendingFor, SendsFurther}
 use Rattle.tap_entry.proofs.Steps.{send_goes}
 use Rattle.tap_entry.proofs.transfer.Sending.feed.Goals as goal
