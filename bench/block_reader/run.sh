@@ -4,7 +4,7 @@
 set -eu
 . "$(dirname -- "$0")/../workspace.sh"
 
-workspace bits wires tap_block
+workspace tap_block
 mkdir -p "$work/crates/block_reader/src"
 echo 'block_reader staticlib: tap_block' >>"$work/crates.txt"
 cat > "$work/crates/block_reader/src/lib.rt" <<'TEXT'

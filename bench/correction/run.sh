@@ -5,7 +5,7 @@
 set -eu
 . "$(dirname -- "$0")/../workspace.sh"
 
-workspace bits bch31
+workspace bch31
 mkdir -p "$work/crates/correct_c/src"
 echo 'correct_c staticlib: bch31' >>"$work/crates.txt"
 cat >"$work/crates/correct_c/src/lib.rt" <<'RT'

@@ -5,7 +5,7 @@
 set -eu
 . "$(dirname -- "$0")/../workspace.sh"
 
-workspace bits bch31 codeword wires page_text receiver
+workspace receiver
 mkdir -p "$work/crates/receiver_c/src"
 echo 'receiver_c staticlib: receiver page_text codeword bch31 bits wires arrayvec' >>"$work/crates.txt"
 cat >"$work/crates/receiver_c/src/lib.rt" <<'RT'

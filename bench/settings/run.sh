@@ -5,7 +5,7 @@
 set -eu
 . "$(dirname -- "$0")/../workspace.sh"
 
-workspace bits bch31 codeword subscribers
+workspace subscribers
 mkdir -p "$work/crates/measure/src"
 echo 'measure: subscribers codeword bch31 bits toml anyhow' >>"$work/crates.txt"
 cat >"$work/crates/measure/src/main.rt" <<'RT'

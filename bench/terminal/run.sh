@@ -6,7 +6,7 @@
 set -eu
 . "$(dirname -- "$0")/../workspace.sh"
 
-workspace bits bch31 codeword wires page_text page_pool tap_block subscribers tap_terminal
+workspace tap_terminal
 mkdir -p "$work/crates/measure/src"
 echo 'measure: tap_terminal page_pool subscribers tap_block page_text codeword bch31 bits wires toml arrayvec anyhow' >>"$work/crates.txt"
 cat >"$work/crates/measure/src/main.rt" <<'RT'

@@ -5,7 +5,7 @@
 set -eu
 . "$(dirname -- "$0")/../workspace.sh"
 
-workspace bits bch31 codeword wires page_text page_pool scheduler air
+workspace air
 mkdir -p "$work/crates/measure/src"
 cp "$top/crates/page_tool/src/streams.rt" "$work/crates/measure/src/"
 echo 'measure: air scheduler page_pool page_text codeword bch31 bits wires arrayvec anyhow' >>"$work/crates.txt"
