@@ -4,7 +4,7 @@
 //! contract says what each status means for every object that it is handed. docs/profile.md, "commands", says what each command does.
 //!
 //! - `top`: `run`.
-//! - `commands`: the command lines, and `capcodes`, the capcodes that one lists.
+//! - `commands`: the command lines, with `receivers`, the receivers that one lists, and `capcodes`, the capcodes of a word.
 //! - `outcomes`: what a command comes to, with `tell`, which puts the line about a status.
 //! - `one_page`: the command `one`, with `input`, which reads the front of the input, `blocks`, its one block, and `texts`, the text of
 //!   the block's content.
@@ -29,6 +29,7 @@ pub mod one_page;
 mod opening;
 pub mod outcomes;
 mod pages_runs;
+mod receivers;
 mod settings_runs;
 #[cfg(test)]
 mod tests;
