@@ -101,3 +101,12 @@ cell_stays f from i old new e z n = n ∙ e ∙ ap (λ k. step f k from) (let d 
 -- the same at the first byte
 pub cell_starts : (f : ℕ → ℕ) (from i old new : ℕ) → old ≡ step f ((i - 1) / 32) from → i ≤ 0 → new ≡ old → new ≡ step f (i / 32) from
 cell_starts f from i old new e z n = n ∙ e ∙ ap (λ k. step f k from) (let d : (i - 1) / 32 ≡ i / 32 = omega (arith, z) in d)
+
+-- one character more was read
+pub read_more : (into : List ℕ) (g : ℕ → ℕ) (i v : ℕ) → i < length into → v ≡ g i → ((k : ℕ) → k < i → get_or into k 0 ≡ g k)
+    → (k : ℕ) → k < i + 1 → get_or (set into i v) k 0 ≡ g k
+read_more into g i v within read before k h =
+    elim (eqb_tells k i) [
+      | inl e ↦ ap (λ z. get_or (set into i v) z 0) e.1 ∙ get_or-set_same into i v 0 within ∙ read ∙ ap g (sym e.1)
+      | inr ne ↦ get_or-set_other into i k v 0 ne.1 ∙ before k (omega (arith, h, ne.1))
+    ]
