@@ -5,7 +5,7 @@ use Rattle.bits.specs.Bits.{bits_of, words_bits}
 use Rattle.page_text.specs.Page.{Page}
 use Rattle.page_pool.specs.Pool.{Pool, cells, pages}
 use Rattle.scheduler.specs.Said.{word_in}
-use Rattle.scheduler.specs.Sendings.{Follows, Keeps, slots_to_come}
+use Rattle.scheduler.specs.Sendings.{Follows, Keeps, slots_to_come, text_of}
 use Rattle.scheduler.specs.declared.slots.Slot.{Slot}
 use Rattle.scheduler.proofs.Ended.{ended}
 use Rattle.wires.specs.declared.Failed.{Failed}
