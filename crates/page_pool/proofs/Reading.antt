@@ -4,6 +4,7 @@ use Rattle.std.specs.Prelude.{slice_index}
 use Rattle.std.specs.Option.{is_some}
 use Rattle.std.specs.List.{filter, find}
 use Rattle.std.proofs.Common.{Option, None, Some, IsSome}
+use Rattle.page_text.specs.declared.limits.TheConstants.{LONGEST_TEXT}
 use Rattle.page_pool.proofs.Peers.{times-filter}
 use Rattle.std.proofs.Math.Dec.{eqb-suc-zero}
 use Rattle.std.proofs.lemmas.List.{map-append}
@@ -152,8 +153,8 @@ module _ (s : Inside) (r : Holds s) (w : Pool) (v : view_of s ≡ w) where
     pub place_in : (k : ℕ) → k < cells_of e.page → k < cells_for (head hs t).length
     place_in k h = subst (λ z. k < cells_for z) len_is h
 
-    -- it has at most 400 characters
-    pub short : length e.page.text ≤ 400
+    -- it has no more characters than the limit
+    pub short : length e.page.text ≤ LONGEST_TEXT
     short = let f = r.fits t in_order in omega (arith, fits-short (at t).page f, len_is, length-text s.bytes.items (places links hs t) (head hs t).length)
 
     -- the length that is read at its head
@@ -161,7 +162,7 @@ module _ (s : Inside) (r : Holds s) (w : Pool) (v : view_of s ≡ w) where
     length_read h e = ap (λ (k : Head). k.length) (read_head hs t h below e)
 
     -- it fits where as many characters fit
-    pub length_fits : (h : Head) → h ≡ get_or hs t h → (room : ℕ) → 400 ≤ room → h.length ≤ room
+    pub length_fits : (h : Head) → h ≡ get_or hs t h → (room : ℕ) → LONGEST_TEXT ≤ room → h.length ≤ room
     length_fits h e room m = omega (arith, length_read h e, len_is, short, m)
 
     -- place k is the cell behind k links

@@ -6,6 +6,7 @@ use Rattle.std.proofs.lemmas.List.{get_or-set_same, get_or-set_other}
 use Rattle.std.proofs.lemmas.List.FromFn.{fill_by_all}
 use Rattle.codeword.specs.declared.functions.Function.{Function}
 use Rattle.codeword.specs.declared.functions.Function.TheVariants.{Numeric, Tone1, Tone2, Alpha}
+use Rattle.page_text.specs.declared.limits.TheConstants.{LONGEST_TEXT}
 use Rattle.page_text.specs.Fits.{Fits}
 use Rattle.page_text.specs.Page.{Page}
 use Rattle.page_pool.specs.Cells.{FitsPage, cells_for}
@@ -14,14 +15,14 @@ use Rattle.page_pool.specs.Layout.{byte_at, text}
 use Rattle.page_pool.proofs.Chains.{times-read, length-walk, get_or-walk, read_apart, step_more}
 
 -- the same, by the function
-short : (function : Function) (text : List ℕ) → Fits function text → length text ≤ 400
+short : (function : Function) (text : List ℕ) → Fits function text → length text ≤ LONGEST_TEXT
 short Numeric text f = omega (arith, f.short)
 short Tone1 text f = omega (arith, ap length f)
 short Tone2 text f = omega (arith, ap length f)
 short Alpha text f = f.short
 
--- a text that fits its function has at most 400 characters
-pub fits-short : (p : Page) → FitsPage p → length p.text ≤ 400
+-- a text that fits its function has no more characters than the limit
+pub fits-short : (p : Page) → FitsPage p → length p.text ≤ LONGEST_TEXT
 fits-short p f = short p.function p.text f
 
 -- at least one cell, and enough of them

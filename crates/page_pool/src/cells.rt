@@ -5,6 +5,8 @@ ghost use Rattle.page_pool.specs.Cells.{cells_for};
 ghost use Rattle.page_pool.specs.Chain.{AreBelow, AreDistinct, walk, step};
 ghost use Rattle.page_pool.specs.Layout.{NONE, KeepsOthers, cells_from, link_of, text};
 
+use page_text::LONGEST_TEXT;
+
 /// The characters that a cell holds.
 pub(crate) const CELL: usize = 32;
 
@@ -13,7 +15,7 @@ pub(crate) const NONE: u32 = u32::MAX;
 
 /// The cells that a text of so many characters takes: at least one.
 pub(crate) fn cells_for(length: usize) -> u32
-    requires { length ≤ 400 }
+    requires { length ≤ LONGEST_TEXT }
     ensures { result ≡ cells_for length }
 {
     if length == 0 {
@@ -37,7 +39,7 @@ pub(crate) fn cell_at(links: &[u32], from: u32, k: u32) -> u32
 
 /// Writes a text along a chain of cells, and answers the last of them.
 pub(crate) fn write_text(bytes: &mut [u8], links: &[u32], from: u32, chars: &[u8]) -> u32
-    requires short { length chars.now ≤ 400 }
+    requires short { length chars.now ≤ LONGEST_TEXT }
     requires cells { AreBelow (length links.now) (cells_from links.now from (length chars.now)) }
     requires apart { AreDistinct (cells_from links.now from (length chars.now)) }
     requires room { length bytes.old ≡ 32 * length links.now }

@@ -9,6 +9,7 @@ ghost use Rattle.page_pool.specs.Cells.{cells_for, cells_of};
 use crate::cells::{CELL, NONE, cell_at, cells_for, chain_all, read_text, set_link, write_text};
 use crate::heads::{Address, Ends, Head, NO_PAGE, frame_in, link, replaced, set_ends, unlink};
 use codeword::{Capcode, Function};
+use page_text::LONGEST_TEXT;
 use std::alloc::Global;
 use std::marker::Model;
 use wires::Memory;
@@ -203,7 +204,7 @@ impl Pool {
         address.function
     }
 
-    /// How many characters the text of a live page has, from 0 to 400.
+    /// How many characters the text of a live page has, from 0 to `LONGEST_TEXT`.
     pub fn length(&self, t: Ticket) -> usize
         requires { IsLive self.now t }
         ensures { (e : Live) → Names self.now t e → result ≡ length e.page.text }
@@ -212,11 +213,11 @@ impl Pool {
         head.length as usize
     }
 
-    /// Copies the text of a live page to the front of `into`, and answers how many characters it has, from 0 to 400. The rest of
+    /// Copies the text of a live page to the front of `into`, and answers how many characters it has, from 0 to `LONGEST_TEXT`. The rest of
     /// `into` stays as it was.
     pub fn copy_text(&self, t: Ticket, into: &mut [u8]) -> usize
         requires live { IsLive self.now t }
-        requires room { 400 ≤ length into.old }
+        requires room { LONGEST_TEXT ≤ length into.old }
         ensures length { (e : Live) → Names self.now t e → result ≡ length e.page.text }
         ensures text { (e : Live) → Names self.now t e → into.new ≡ e.page.text ++ drop (length e.page.text) into.old }
     {

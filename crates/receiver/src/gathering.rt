@@ -9,7 +9,7 @@ ghost use Rattle.receiver.specs.Gathering.{IsOurs, begun};
 
 use crate::ready::Ready;
 use codeword::{Capcode, Function, WordKind};
-use page_text::TextReader;
+use page_text::{LONGEST_READ, TextReader};
 use std::marker::Model;
 
 /// The page under way and its groups. Where the last bit completed a page, the groups are those of that page, and the page under way has
@@ -122,10 +122,10 @@ impl Gathering {
     /// Writes the text of the page that the last bit completed to the front of `into`, and answers its length.
     pub fn text(&self, into: &mut [u8]) -> usize
         requires ready { IsSome self.now.ready }
-        requires room { 700 ≤ length into.old }
+        requires room { LONGEST_READ ≤ length into.old }
         ensures text { IfSome self.now.ready (λ page. take result into.new ≡ text_of page.function page.groups) }
         ensures length { IfSome self.now.ready (λ page. result ≡ length (text_of page.function page.groups)) }
-        ensures few { result ≤ 700 }
+        ensures few { result ≤ LONGEST_READ }
     {
         match self.ready {
             Some(page) => self.groups.text(page.function, into),

@@ -6,6 +6,7 @@ use Rattle.std.specs.List.{filter, find}
 use Rattle.std.proofs.lemmas.List.{length-map, get_or-map}
 use Rattle.std.proofs.Math.Seq.{take-append_seam}
 use Rattle.codeword.specs.declared.functions.Function.{Function}
+use Rattle.page_text.specs.declared.limits.TheConstants.{LONGEST_TEXT}
 use Rattle.page_text.specs.Fits.{Fits}
 use Rattle.page_text.specs.Groups.{groups, HasGroups}
 use Rattle.page_text.specs.Page.{Page}
@@ -50,13 +51,13 @@ gives-end slot piece s w s' w' f h k g = record {
 }
 
 -- no run is under way behind the idle word and behind a run
-follows-idle : (s : Sending) (w : Pool) → s.place < 16 → s.length ≤ 400 → s.before ≡ Idle → Follows s w
+follows-idle : (s : Sending) (w : Pool) → s.place < 16 → s.length ≤ LONGEST_TEXT → s.before ≡ Idle → Follows s w
 follows-idle s w l m e = record { in_batch = l; short = m; in_run = λ f k h. absurd (let x = sym e ∙ h in cc) }
 
-follows-run_end : (s : Sending) (w : Pool) → s.place < 16 → s.length ≤ 400 → s.before ≡ RunEnd → Follows s w
+follows-run_end : (s : Sending) (w : Pool) → s.place < 16 → s.length ≤ LONGEST_TEXT → s.before ≡ RunEnd → Follows s w
 follows-run_end s w l m e = record { in_batch = l; short = m; in_run = λ f k h. absurd (let x = sym e ∙ h in cc) }
 
-follows-in_run : (s : Sending) (w : Pool) (f k : ℕ) → s.place < 16 → s.length ≤ 400 → s.before ≡ InRun f k → IsInRun w f k (text_of s) → Follows s w
+follows-in_run : (s : Sending) (w : Pool) (f k : ℕ) → s.place < 16 → s.length ≤ LONGEST_TEXT → s.before ≡ InRun f k → IsInRun w f k (text_of s) → Follows s w
 follows-in_run s w f k l m e u = record {
   in_batch = l;
   short = m;
@@ -146,7 +147,7 @@ module _ (w : Pool) (f t : ℕ) (function : Function) (sound : Sound w) (h : IsF
       (ap frame x.is ∙ x.own) (pages-taken w w' f t sound h takes) (omega (arith, place)))))
 
 -- the text of the first page of a frame is short enough
-pub short : (w : Pool) (f t n : ℕ) → Sound w → IsFirst w f t → ((e : Live) → Names w t e → n ≡ length e.page.text) → n ≤ 400
+pub short : (w : Pool) (f t n : ℕ) → Sound w → IsFirst w f t → ((e : Live) → Names w t e → n ≡ length e.page.text) → n ≤ LONGEST_TEXT
 short w f t n sound h e = let x = first-is w f t h in omega (arith, e x.entry x.names, fits-short x.entry.page (sound.pages t x.entry x.names).fits)
 
 module _ (w : Pool) (t capcode : ℕ) (function : Function) (s s' : Sending) (f : ℕ) (follows : Follows s w) (between : IsBetween s.before)

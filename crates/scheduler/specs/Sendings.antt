@@ -3,6 +3,7 @@ use Rattle.std.specs.Prelude.{◌≡◌, ◌≢◌, ◌⊎◌, ◌+◌, ◌<◌,
 use Rattle.std.specs.List.{filter, find}
 use Rattle.std.specs.Option.{option_map}
 use Rattle.codeword.specs.declared.functions.Function.TheVariants.{Numeric}
+use Rattle.page_text.specs.declared.limits.TheConstants.{LONGEST_TEXT}
 use Rattle.page_text.specs.Page.{Page}
 use Rattle.page_pool.specs.Pool.{Live, Pool, cells}
 use Rattle.page_pool.specs.Pool.{pages as live_pages, in_frame as is_live_in}
@@ -79,7 +80,7 @@ text_of s = take s.length s.text
 -- what holds between a transmission and its pool
 pub record Follows (s : Sending) (w : Pool) : Type 0 where
   pub in_batch : s.place < 16
-  pub short : s.length ≤ 400
+  pub short : s.length ≤ LONGEST_TEXT
   pub in_run : HasRun w s.before (text_of s)
 
 -- What was given of a transmission of the accepted pages, and which of them are held: whole pieces came before the run under way, and

@@ -11,7 +11,7 @@ ghost use Rattle.scheduler.specs.declared.slots.Slot.{Slot as Said};
 
 use crate::slots::Slot;
 use page_pool::{Pool, Ticket};
-use page_text::{group, word_count};
+use page_text::{LONGEST_TEXT, group, word_count};
 use std::sync::ledger::Ledger;
 use wires::steps::Steps;
 
@@ -20,9 +20,6 @@ const BATCH: u32 = 16;
 
 /// A frame has so many slots (M.584-2).
 const FRAME: u32 = 2;
-
-/// The most characters of a text.
-const LONGEST_TEXT: usize = 400;
 
 /// What stood in the slot before the next one.
 #[derive(Clone, Copy)]
