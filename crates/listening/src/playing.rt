@@ -12,16 +12,13 @@ ghost use Rattle.listening.specs.Table.{table_of};
 use crate::listening::{Listener, listen};
 use crate::table::Table;
 use endings::statuses::Status;
-use page_text::line;
+use page_text::{LONGEST_READ, line};
 use receiver::{Group, Ready};
 use wires::Failed;
 use wires::piece::Piece;
 use wires::sink::Sink;
 use wires::source::BitSource;
 use wires::steps::{Steps, Work};
-
-/// The most bytes that the text of a page has.
-const LONGEST_TEXT: usize = 700;
 
 /// The most receivers of a group.
 const MOST_RECEIVERS: u32 = 64;
@@ -36,7 +33,7 @@ impl Listener for Group {
         let Some(page) = self.feed_piece(piece, &mut steps) else {
             return Ok(());
         };
-        let mut text = [0; LONGEST_TEXT];
+        let mut text = [0; LONGEST_READ];
         let length = self.text(&mut text);
         show_page(self, &page, &text[..length], out)
     }
@@ -44,7 +41,7 @@ impl Listener for Group {
 
 /// Puts the line of a page for each receiver of the group that has its capcode.
 fn show_page<O: Sink>(group: &Group, page: &Ready, text: &[u8], out: &mut O) -> Result<(), Failed>
-    requires { length text.now ≤ 700 }
+    requires { length text.now ≤ LONGEST_READ }
     ensures { Puts (O.state out.old) (O.state out.new) (lines_for page.now.capcode page.now.function text.now (numbers_with (has_in group.now.holders) page.now.capcode)) result }
 {
     for k in 0..MOST_RECEIVERS {
@@ -60,7 +57,7 @@ fn show_page<O: Sink>(group: &Group, page: &Ready, text: &[u8], out: &mut O) -> 
 
 /// Puts the line of a page for the receiver of this number.
 fn show_line<O: Sink>(number: u32, page: &Ready, text: &[u8], out: &mut O) -> Result<(), Failed>
-    requires { length text.now ≤ 700 }
+    requires { length text.now ≤ LONGEST_READ }
     ensures { Puts (O.state out.old) (O.state out.new) (number_text number ++ line_of page.now.capcode page.now.function text.now) result }
 {
     if let Err(Failed) = out.put(&number_digits(number)) {

@@ -11,7 +11,7 @@ ghost use Rattle.receiver.specs.Gathering.{IsFound, page_begun};
 use crate::front::FrontEvent;
 use crate::ready::Ready;
 use codeword::{Capcode, Function, SLOTS, WordKind, kind, number_in_slot};
-use page_text::TextReader;
+use page_text::{LONGEST_READ, TextReader};
 use std::marker::Model;
 use std::sync::ledger::Ledger;
 use wires::steps::Steps;
@@ -162,10 +162,10 @@ impl Gathering {
     /// Writes the text of the page that the last bit completed to the front of `into`, and answers its length.
     pub fn text(&self, into: &mut [u8]) -> usize
         requires ready { IsSome self.now.ready }
-        requires room { 700 ≤ length into.old }
+        requires room { LONGEST_READ ≤ length into.old }
         ensures text { IfSome self.now.ready (λ page. take result into.new ≡ text_of page.function page.groups) }
         ensures length { IfSome self.now.ready (λ page. result ≡ length (text_of page.function page.groups)) }
-        ensures few { result ≤ 700 }
+        ensures few { result ≤ LONGEST_READ }
     {
         match self.ready {
             Some(page) => self.groups.text(page.function, into),

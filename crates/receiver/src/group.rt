@@ -15,6 +15,7 @@ use crate::front::Front;
 use crate::gathering::{CapcodeSet, Gathering};
 use crate::ready::Ready;
 use codeword::Capcode;
+use page_text::LONGEST_READ;
 use std::alloc::Global;
 use std::collections::BTreeMap;
 use std::marker::Model;
@@ -172,14 +173,14 @@ impl Group {
         }
     }
 
-    /// Writes the text of the page that the last `feed` answered to the front of `into`, which has at least 700 bytes, and answers its
+    /// Writes the text of the page that the last `feed` answered to the front of `into`, which has at least `LONGEST_READ` bytes, and answers its
     /// length. What stands behind the text in `into` is open.
     pub fn text(&self, into: &mut [u8]) -> usize
         requires ready { IsSome self.now.ready }
-        requires room { 700 ≤ length into.old }
+        requires room { LONGEST_READ ≤ length into.old }
         ensures text { IfSome self.now.ready (λ page. take result into.new ≡ text_of page.function page.groups) }
         ensures length { IfSome self.now.ready (λ page. result ≡ length (text_of page.function page.groups)) }
-        ensures few { result ≤ 700 }
+        ensures few { result ≤ LONGEST_READ }
     {
         self.gathering.text(into)
     }
