@@ -203,6 +203,8 @@ def batches(table, first=1, last=MOST_BATCHES):
     found = batches_of(table)
     if not found:
         sys.exit("the table has no batch")
+    if first > found[-1][0] or last < first:
+        sys.exit(f"the table has the batches {found[0][0]} to {found[-1][0]}")
     texts = pages_of(found)
     p = Picture(1060, "The batches of a transmission, slot by slot")
     p.words(16, 26, f"Batches {max(first, found[0][0])} to {min(last, found[-1][0])} of {found[-1][0]}", "text title")

@@ -20,6 +20,8 @@ version=0~$(git -C "$top" log -1 --format=%cd.%h --date=format:%Y%m%d --abbrev=1
 SOURCE_DATE_EPOCH=$(git -C "$top" log -1 --format=%ct)
 export SOURCE_DATE_EPOCH
 architecture=$(dpkg --print-architecture)
+# the newest version of the C library whose names the program uses
+libc=$(grep -ao 'GLIBC_[0-9.]*' "$top/crates/page_tool/out/page_tool" | sort -Vu | tail -n 1 | cut -d _ -f 2)
 
 # put MODE FROM.. TO: files of the repository into a folder of the package
 put() {
@@ -62,7 +64,7 @@ Version: $version
 Architecture: $architecture
 Maintainer: pocsag maintainers <maintainers@localhost>
 Installed-Size: $size
-Depends: libc6
+Depends: libc6${libc:+ (>= $libc)}
 Suggests: haproxy | socat
 Section: comm
 Priority: optional
