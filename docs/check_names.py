@@ -3,7 +3,7 @@
 
 Looked at are the pieces of code in the text, and indented lines:
 
-- a path, as `crates/air/src/lib.rt`, `station/specs/Rows.antt` or `crates/*/specs/`, is there, at the top or in crates/;
+- a path in the repository, as `crates/air/src/lib.rt`, `station/specs/Rows.antt` or `crates/*/specs/`, is there, at the top or in crates/;
 - the name of a file alone, as `Rows.antt`, is that of some file;
 - `crate::name` and `Type::name`: the crate, its modules and types, and the name in them;
 - a name of several words, as `HasServed` or `play_lines`, stands in some source, specification or proof, or is an edit's;
@@ -18,8 +18,8 @@ from pathlib import Path
 
 TOP = Path(__file__).resolve().parent.parent
 CRATES = TOP / "crates"
-EXTENSIONS = ("rt", "antt", "md", "sh", "py", "rs", "toml", "tap", "txt", "noise", "edit", "1")
-FILE = re.compile(r"^[\w.*/-]+\.(?:%s)$" % "|".join(EXTENSIONS))
+EXTENSIONS = ("rt", "antt", "md", "sh", "py", "rs", "toml", "tap", "txt", "noise", "edit", "1", "svg", "cfg", "service")
+FILE = re.compile(r"^[\w.*/@-]+\.(?:%s)$" % "|".join(EXTENSIONS))
 CODE = re.compile(r"`([^`\n]+)`")
 PATH_NAME = re.compile(r"^(?:\w+::)+\w+$")
 LONG_NAME = re.compile(r"^(?:[A-Z][a-z0-9]+(?:[A-Z][a-z0-9]*)+|[a-z][a-z0-9]*(?:_[a-z0-9]+)+|[A-Z]+(?:_[A-Z]+)+)$")
@@ -107,7 +107,7 @@ def wrong_in(code):
     words = code.split()
     for word in words if len(words) > 1 else [code]:
         word = word.strip("\"'()[]{},;").removeprefix("./")
-        if FILE.match(word) and not word[0].isdigit() and not is_path(word):
+        if FILE.match(word) and not word[0].isdigit() and not word.startswith("/") and not is_path(word):
             yield word
         elif is_folder(word) and not is_path(word):
             yield word

@@ -67,7 +67,7 @@ class Picture:
         self.add(f'<rect class="{kind}" x="{x}" y="{y}" width="{width}" height="{height}" rx="3">' + (f"<title>{escape(said)}</title>" if said else "") + "</rect>", y + height)
         for number, line in enumerate(lines):
             at = y + height / 2 + 4.5 + 16 * (number - (len(lines) - 1) / 2)
-            self.words(x + width / 2, at, line, ("text" if number == 0 else "faint small") + (" mono" if mono else ""), "middle")
+            self.words(x + width / 2, at, line, ("text" if number == 0 else "faint small") + (" mono small" if mono else ""), "middle")
 
     def words(self, x, y, text, kind="text", anchor="start"):
         self.add(f'<text class="{kind}" x="{x:g}" y="{y:g}" text-anchor="{anchor}">{escape(text)}</text>', y + 5)
@@ -207,7 +207,7 @@ def batches(table, first=1, last=MOST_BATCHES):
     p = Picture(1060, "The batches of a transmission, slot by slot")
     p.words(16, 26, f"Batches {max(first, found[0][0])} to {min(last, found[-1][0])} of {found[-1][0]}", "text title")
     for number, (kind, text) in enumerate([("sync", "sync word"), ("address", "address word: capcode, function"), ("message", "message word: 20 bits"), ("idle", "idle word"), ("bad", "no codeword near")]):
-        at = 330 + [0, 100, 310, 460, 560][number]
+        at = 330 + [0, 100, 312, 472, 570][number]
         p.box(at, 14, 14, 14, kind)
         p.words(at + 20, 26, text, "text small")
     y = 62

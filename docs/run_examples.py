@@ -215,6 +215,8 @@ def main():
                 check_listing(path, above, block, tally)
         finally:
             shutil.rmtree(folder)
+    if tally.passed + tally.failed == 0:
+        tally.add("README.md", "no document shows a command", ["  a command is an indented line that begins with `$ `"])
     print(f"{tally.passed} passed, {tally.failed} failed")
     return tally.failed > 0
 

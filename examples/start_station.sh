@@ -3,8 +3,8 @@
 #
 #     start_station.sh ADDRESS SETTINGS FOLDER
 #
-# It waits until there is no such file yet, since a station truncates the one that it is given. POCSAG names the program where it isn't
-# on the path. The status is that of the station.
+# FOLDER is of this station alone. The script waits until there is no such file yet, since a station truncates the one that it is
+# given. The variable POCSAG names the program where it isn't on the path. The status is that of the station.
 [ $# = 3 ] || { echo "usage: start_station.sh ADDRESS SETTINGS FOLDER" >&2; exit 2; }
 air=$3/$(date -u +%Y%m%d-%H%M%S).air
 while [ -e "$air" ]; do

@@ -1,5 +1,6 @@
 """Times the station over loopback. `run.sh` in this folder starts it: client.py PROGRAM FOLDER."""
 
+import multiprocessing
 import pathlib
 import socket
 import subprocess
@@ -35,8 +36,9 @@ class Station:
 
     def __init__(self, connections):
         self.address = free_address()
-        words = [PROGRAM, "station", "%s:%d" % self.address, FOLDER / "settings.toml", FOLDER / "air.bin", str(connections)]
-        with (FOLDER / "report").open("w") as report:
+        words = [PROGRAM, "station", "%s:%d" % self.address, FOLDER / "settings.toml", FOLDER / f"air-{self.address[1]}", str(connections)]
+        self.report = FOLDER / f"report-{self.address[1]}"
+        with self.report.open("w") as report:
             self.process = subprocess.Popen(words, stdout=report)
 
     def dial(self):
@@ -51,7 +53,7 @@ class Station:
 
     def ends(self, pages):
         self.process.wait(60)
-        report = (FOLDER / "report").read_text()
+        report = self.report.read_text()
         counted = sum(int(line.split()[4]) for line in report.splitlines())
         if self.process.returncode != 0 or counted != pages:
             sys.exit(f"{self.process.returncode} {report}")
@@ -104,6 +106,15 @@ def in_turn(count):
     return time.perf_counter() - start
 
 
+def side_by_side(stations, count):
+    """Such sessions with so many stations at once, each with a client of its own: seconds from the start of the first to the end of the
+    last."""
+    with multiprocessing.get_context("fork").Pool(stations) as clients:
+        start = time.perf_counter()
+        clients.map(in_turn, [count] * stations)
+        return time.perf_counter() - start
+
+
 def sessions(count):
     """Sessions one after another, each with one page and each reply heard before more is said: seconds."""
     one = block(b"HELLO")
@@ -130,5 +141,9 @@ for text in (b"HELLO", b"x" * 241):
 for count in (1000, 10000):
     best = min(in_turn(count) for _ in range(TIMES))
     print(f"| {count:,} blocks in one session, each said when the reply to the one before was heard | {best:.3f} s | {count / best:,.0f} pages a second |")
+for stations in (2, 4):
+    best = min(side_by_side(stations, 10000) for _ in range(TIMES))
+    pages = stations * 10000
+    print(f"| {stations} stations side by side, 10,000 blocks likewise on each | {best:.3f} s | {pages / best:,.0f} pages a second |")
 best = min(sessions(1000) for _ in range(TIMES))
 print(f"| 1,000 sessions of one page, each reply heard before more is said | {best:.3f} s | {1000 / best:,.0f} sessions a second |")

@@ -13,7 +13,7 @@ use Rattle.endings.specs.declared.statuses.Status.{Status}
 use Rattle.endings.specs.declared.statuses.Status.TheVariants.{FileFault, Memory}
 use Rattle.calling.specs.Calls.{HasSent}
 use Rattle.station.specs.ReadFile.{IsUnread, ReadInto, most_of_file}
-use Rattle.station.specs.SendRows.{ReadPages, SendRow}
+use Rattle.station.specs.SendRows.{ReadPages, SendRow, pages_outcome}
 use Rattle.serving.specs.Serving.{Around}
 
 -- a front of a file that is short is the whole of it
@@ -49,9 +49,9 @@ read_pages name a b bytes seen told same read file = record {
 
 -- the file is refused
 pub refused_row : (address name : List ℕ) (w : Line) (a b : Files) (o : Written ℕ) (bytes seen : List ℕ) (fault : PagesFault) → seen ≡ bytes → ReadInto name a b bytes
-    → IsFileRefused seen fault → (fault ≡ Pages.Memory → ⊥) → SendRow address name (record { wire = w; shelf = a; out = o }) (record { wire = w; shelf = b; out = o }) (Misread fault)
-refused_row address name w a b o bytes seen Pages.Memory same read refused other = absurd (other refl)
-refused_row address name w a b o bytes seen fault same read refused other = (
+    → IsFileRefused seen fault → SendRow address name (record { wire = w; shelf = a; out = o }) (record { wire = w; shelf = b; out = o }) (pages_outcome fault)
+refused_row address name w a b o bytes seen Pages.Memory same read refused = (read.unharmed, record { wire = refl; out = refl })
+refused_row address name w a b o bytes seen fault same read refused = (
   record {
     unharmed = read.unharmed;
     there = read.there;

@@ -7,7 +7,7 @@ use Rattle.subscribers.specs.Settings.{IsOrMemory, most_settings_bytes, settings
 use Rattle.subscribers.specs.declared.faults.SettingsFault.{SettingsFault}
 use Rattle.subscribers.specs.declared.faults.SettingsFault.TheVariants.{Long, Memory}
 use Rattle.wires.specs.Files.{Files}
-use Rattle.station.specs.ReadFile.{ReadInto, ReadSettings, RefusedSettings, most_of_file}
+use Rattle.station.specs.ReadFile.{HasNoSettings, ReadInto, ReadSettings, RefusedSettings, most_of_file, settings_outcome}
 
 lt_true : (a b : ℕ) → a < b → nat_lt a b ≡ true
 lt_true a b h = grind arith
@@ -49,7 +49,7 @@ refused : (fault : SettingsFault) (seen : List ℕ) (r : Result Parts SettingsFa
 refused fault seen r e other (inl memory) = absurd (other (ap fault_of (sym e ∙ memory)))
 refused fault seen r e other (inr is) = sym is ∙ e
 
-pub refused_settings : (name : List ℕ) (a b : Files) (bytes seen : List ℕ) (fault : SettingsFault) (r : Result Parts SettingsFault) → seen ≡ bytes → ReadInto name a b bytes
+refused_settings : (name : List ℕ) (a b : Files) (bytes seen : List ℕ) (fault : SettingsFault) (r : Result Parts SettingsFault) → seen ≡ bytes → ReadInto name a b bytes
     → r ≡ Err fault → (fault ≡ Memory → ⊥) → IsOrMemory r (settings_of seen) → RefusedSettings name a b fault
 refused_settings name a b bytes seen fault r same read e other answer =
     let of_seen : settings_of seen ≡ Err fault = refused fault seen r e other answer in
@@ -61,3 +61,9 @@ refused_settings name a b bytes seen fault r same read e other answer =
       of_seen = of_seen;
       not_memory = other;
     }
+
+-- what a command comes to without settings
+pub no_settings : (name : List ℕ) (a b : Files) (bytes seen : List ℕ) (fault : SettingsFault) (r : Result Parts SettingsFault) → seen ≡ bytes → ReadInto name a b bytes
+    → r ≡ Err fault → IsOrMemory r (settings_of seen) → HasNoSettings name a b (settings_outcome fault)
+no_settings name a b bytes seen Memory r same read e answer = inr (refl, read.unharmed)
+no_settings name a b bytes seen fault r same read e answer = refused_settings name a b bytes seen fault r same read e (λ m. cc) answer

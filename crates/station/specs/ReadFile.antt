@@ -67,6 +67,11 @@ pub record RefusedSettings (name : List ℕ) (old new : Files) (fault : Settings
   pub of_seen : settings_of seen ≡ Err fault
   pub not_memory : fault ≢ NoMemory
 
+-- what a command comes to whose settings file is refused so
+abbrev pub settings_outcome : SettingsFault → Outcome
+settings_outcome NoMemory = Ended Memory
+settings_outcome fault = Refused fault
+
 -- a settings file gave none, and this is what a command comes to without them
 abbrev pub HasNoSettings : List ℕ → Files → Files → Outcome → Type 0
 HasNoSettings name old new (Ended status) = IsUnread name old new status

@@ -43,3 +43,8 @@ SendRow address name old new (Misread fault) = RefusedPages name old.shelf new.s
 SendRow address name old new (Ended Memory) = Unharmed name old.shelf new.shelf × LeavesWireAndOut old new
 SendRow address name old new (Ended FileFault) = Unreadable name old.shelf new.shelf × LeavesWireAndOut old new
 SendRow address name old new (Ended status) = SentBy address name old new status
+
+-- what a command comes to whose pages file is refused so
+abbrev pub pages_outcome : PagesFault → Outcome
+pages_outcome Pages.Memory = Ended Memory
+pages_outcome fault = Misread fault

@@ -1,7 +1,7 @@
 //! The files that a command reads into memory, and the settings that one gives.
 
 ghost use Rattle.std.specs.Prelude.{◌≡◌};
-ghost use Rattle.station.specs.ReadFile.{ReadsFile, ReadsSettings};
+ghost use Rattle.station.specs.ReadFile.{ReadsFile, ReadsSettings, settings_outcome};
 
 use crate::outcomes::Outcome;
 use endings::statuses::Status;
@@ -57,7 +57,16 @@ pub(crate) fn read_settings<F: Shelf>(
     };
     match Settings::read(alloc, &bytes) {
         Ok(settings) => Ok(settings),
-        Err(SettingsFault::Memory) => Err(Outcome::Ended(Status::Memory)),
-        Err(fault) => Err(Outcome::Refused(fault)),
+        Err(fault) => Err(without_settings(fault)),
+    }
+}
+
+/// What a command comes to whose settings file is refused.
+fn without_settings(fault: SettingsFault) -> Outcome
+    ensures { result ≡ settings_outcome fault }
+{
+    match fault {
+        SettingsFault::Memory => Outcome::Ended(Status::Memory),
+        _ => Outcome::Refused(fault),
     }
 }

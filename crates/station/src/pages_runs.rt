@@ -1,7 +1,7 @@
 //! The command `send`, which reads its pages from a file.
 
 ghost use Rattle.std.specs.Prelude.{◌≡◌};
-ghost use Rattle.station.specs.SendRows.{SendRow};
+ghost use Rattle.station.specs.SendRows.{SendRow, pages_outcome};
 
 use crate::files::read_file;
 use crate::outcomes::Outcome;
@@ -32,7 +32,16 @@ pub(crate) fn run_send<W: Wire, F: Shelf, O: Sink>(
     };
     match Pages::read(alloc, &bytes) {
         Ok(pages) => Outcome::Ended(send(wire, address, &pages, out)),
-        Err(PagesFault::Memory) => Outcome::Ended(Status::Memory),
-        Err(fault) => Outcome::Misread(fault),
+        Err(fault) => without_pages(fault),
+    }
+}
+
+/// What a command comes to whose pages file is refused.
+fn without_pages(fault: PagesFault) -> Outcome
+    ensures { result ≡ pages_outcome fault }
+{
+    match fault {
+        PagesFault::Memory => Outcome::Ended(Status::Memory),
+        _ => Outcome::Misread(fault),
     }
 }

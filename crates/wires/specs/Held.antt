@@ -45,3 +45,5 @@ pub data Held : Type 0 where
   Bytes : Bool → Held
   -- so many of the things that follow are of the first part, and the others of the second
   Parts : ℕ → Held
+  -- whether something follows after all that it hands out
+  Follows : Bool → Held

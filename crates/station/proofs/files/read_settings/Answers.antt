@@ -1,3 +1,5 @@
+use Rattle.std.proofs.Common.{subst, sym}
+use Rattle.station.specs.ReadFile.{HasNoSettings}
 use Rattle.station.proofs.SettingsRead.{no_settings, read_settings}
 use Rattle.station.proofs.files.read_settings.Goals as goal
 
@@ -8,5 +10,6 @@ returns-in-Ok-read g c =
 
 pub returns : goal.returns
 returns g c =
-    no_settings c.args.name.now (g.F.Shelf.state c.args.shelf.now) (g.F.Shelf.state c.read_file.new.shelf) c.in-Ok.bytes.items c.deref.result.now c.in-Err.fault c.why.result _
-    c.deref.ensures.value c.in-Ok.ensures c.in-Err.is c.read.ensures c.why.ensures
+    subst (HasNoSettings c.args.name.now (g.F.Shelf.state c.args.shelf.now) (g.F.Shelf.state c.read_file.new.shelf)) (sym c.without_settings.ensures)
+    (no_settings c.args.name.now (g.F.Shelf.state c.args.shelf.now) (g.F.Shelf.state c.read_file.new.shelf) c.in-Ok.bytes.items c.deref.result.now c.in-Err-read.fault _
+    c.deref.ensures.value c.in-Ok.ensures c.in-Err-read.is c.read.ensures)
