@@ -138,6 +138,7 @@ impl Group {
         ensures answer { result ≡ ready_answer self.new.ready }
         ensures steps { (bits : List Bool) → StandsFor self.old bits → steps.new + slots_in bits ≡ steps.old + slots_in (bits ++ bit ∷ []) }
     {
+        self.gathering.forget();
         let event = self.front.feed(bit);
         self.gathering.meet(event, &self.holders, steps)
     }
@@ -163,6 +164,7 @@ impl Group {
         ensures steps { (bits : List Bool) → StandsFor self.old bits → steps.new + slots_in bits ≡ steps.old + slots_in (bits ++ taken_of piece.old piece.new) }
     {
         loop {
+            self.gathering.forget();
             let event = self.front.feed_piece(piece);
             if let Some(page) = self.gathering.meet(event, &self.holders, steps) {
                 return Some(page);
@@ -212,6 +214,9 @@ fn number_in(set: u64, k: u32) -> Option<u32>
 {
     let mut before = k;
     for n in 0..MOST_RECEIVERS {
+        if set >> n == 0 {
+            return None;
+        }
         if (set >> n) & 1 == 1 {
             if before == 0 {
                 return Some(n + 1);

@@ -109,6 +109,7 @@ impl Receiver {
             → heard (is_one_of self.old.capcodes) (bits ++ bit ∷ []) ≡ heard (is_one_of self.old.capcodes) bits ++ ready_pages self.new.ready }
         ensures answer { result ≡ ready_answer self.new.ready }
     {
+        self.gathering.forget();
         let event = self.front.feed(bit);
         self.gathering
             .meet(event, &self.capcodes, &mut Steps::<Work>::new())
@@ -131,6 +132,7 @@ impl Receiver {
     {
         let mut steps = Steps::<Work>::new();
         loop {
+            self.gathering.forget();
             let event = self.front.feed_piece(piece);
             if let Some(page) = self.gathering.meet(event, &self.capcodes, &mut steps) {
                 return Some(page);
