@@ -5,7 +5,7 @@ use Rattle.bits.specs.Bits.{bits_of, words_bits}
 use Rattle.page_text.specs.Page.{Page}
 use Rattle.page_pool.specs.Pool.{Pool, cells, pages}
 use Rattle.scheduler.specs.Said.{word_in}
-use Rattle.scheduler.specs.Sendings.{IsSendingOf, KeepsPool, slots_to_come}
+use Rattle.scheduler.specs.Sendings.{IsSendingOf, KeepsPool, slots_to_come, text_under_way}
 use Rattle.scheduler.specs.declared.slots.Slot.{Slot}
 use Rattle.scheduler.proofs.Ended.{ended}
 use Rattle.wires.specs.declared.Failed.{Failed}
@@ -98,7 +98,7 @@ no_bit p n s w f e =
     let words : words_to_come s w ≡ [] = no_words (words_to_come s w) (no_rest (bits_of p n) (words_bits (words_to_come s w)) e) in
     let slots = no_slots s.room (slots_to_come w s.sending.place s.sending.before)
     (no_rest (replicate s.preamble filler) (with_sync s.room (map word_in (slots_to_come w s.sending.place s.sending.before))) words) in
-    (ended w s.sending.place s.sending.before s.sending.text.items f.in_batch f.in_run slots).none
+    (ended w s.sending.place s.sending.before (text_under_way s.sending) f.in_batch f.in_run slots).none
 
 -- the first bit of the next word
 pub bits-word : (p n : ℕ) (s s' : Order) (w w' : Pool) (word : ℕ) → p ≡ 0 → words_to_come s w ≡ word ∷ words_to_come s' w'

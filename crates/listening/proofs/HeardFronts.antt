@@ -1,16 +1,17 @@
 -- What is printed of a front of bits is a front of what is printed of all.
 use Rattle.std.proofs.Common.{ℕ, ◌+◌, Bool, List, ◌∙◌, ap}
 use Rattle.std.specs.Prelude.{map}
+use Rattle.std.specs.List.{concat}
 use Rattle.std.proofs.lemmas.Grind.{flat_map-append}
 use Rattle.wires.specs.Fronts.{Grows}
 use Rattle.receiver.specs.Heard.{heard, with_text}
 use Rattle.receiver.specs.Listeners.{Listener, is_one_of}
-use Rattle.receiver.specs.Receivers.{has_in, is_paired}
-use Rattle.receiver.specs.Shown.{shown}
+use Rattle.receiver.specs.Receivers.{has_in}
+use Rattle.receiver.specs.Shown.{has_of, shown}
 use Rattle.receiver.specs.Slots.{entries}
 use Rattle.receiver.proofs.Growing.{entries-grow, shown-grow}
 use Rattle.listening.proofs.Tables.{entry_lines-append}
-use Rattle.listening.specs.PageLines.{alone_from, group_lines, lines_heard, play_lines, shown_line, shown_lines}
+use Rattle.listening.specs.PageLines.{group_lines, lines_heard, play_lines, shown_line, shown_lines}
 use Rattle.listening.specs.Table.{batches_in, entry_lines, table_of}
 
 -- what receivers print of bits begins with what they print of each front of them
@@ -25,8 +26,8 @@ lines_heard-grow listens has bits more =
 pub group_lines-grow : (group : Listener) → Grows (group_lines group)
 group_lines-grow group = lines_heard-grow (is_one_of group.capcodes) (has_in group.holders)
 
-pub play_lines-grow : (capcodes : List ℕ) → Grows (play_lines capcodes)
-play_lines-grow capcodes = lines_heard-grow (is_one_of capcodes) (is_paired (alone_from 1 capcodes))
+pub play_lines-grow : (receivers : List (List ℕ)) → Grows (play_lines receivers)
+play_lines-grow receivers = lines_heard-grow (is_one_of (concat receivers)) (has_of receivers)
 
 -- and so does `show`
 pub table_of-grow : Grows table_of

@@ -1,9 +1,9 @@
-pub mod GroupsHeard
 pub mod HeardFiles
 pub mod HeardFronts
 pub mod LeftBits
 pub mod Listens
 pub mod NoisyHeard
+pub mod PlayedFiles
 pub mod PlayedPages
 pub mod Tables
 pub mod WellListened

@@ -1,12 +1,13 @@
 -- The pages that are heard, as they are printed. docs/profile.md, "printed line".
-use Rattle.std.specs.Prelude.{ℕ, suc, Bool, List, [], ◌∷◌, ◌++◌, map, flat_map}
+use Rattle.std.specs.Prelude.{ℕ, Bool, List, [], ◌∷◌, ◌++◌, map, flat_map}
+use Rattle.std.specs.List.{concat}
 use Rattle.codeword.specs.declared.functions.Function.{Function}
 use Rattle.page_text.specs.Line.{decimal_digits, line_of}
 use Rattle.page_text.specs.Page.{Page}
 use Rattle.receiver.specs.Heard.{heard, with_text}
 use Rattle.receiver.specs.Listeners.{Listener, is_one_of}
-use Rattle.receiver.specs.Receivers.{has_in, is_paired}
-use Rattle.receiver.specs.Shown.{shown}
+use Rattle.receiver.specs.Receivers.{has_in}
+use Rattle.receiver.specs.Shown.{has_of, shown}
 
 -- the printed line of a page
 abbrev pub page_line : Page → List ℕ
@@ -44,15 +45,11 @@ lines_heard listens has bits = shown_lines (shown has (map with_text (heard list
 abbrev pub group_lines : Listener → List Bool → List ℕ
 group_lines group = lines_heard (is_one_of group.capcodes) (has_in group.holders)
 
--- each of these capcodes with the number of a receiver that has no other, numbered from a number on
-abbrev pub alone_from : ℕ → List ℕ → List (ℕ × ℕ)
-alone_from number [] = []
-alone_from number (capcode ∷ capcodes) = (number, capcode) ∷ alone_from (suc number) capcodes
+-- the pages that receivers hear in the bits, each with the numbers of its receivers. The receivers are a list of sets of capcodes, and
+-- numbered from 1
+abbrev pub pairs_heard : List (List ℕ) → List Bool → List (ℕ × Page)
+pairs_heard receivers bits = shown (has_of receivers) (pages_heard (concat receivers) bits)
 
--- the pages that are heard in the bits by receivers of one of these capcodes each, each with the numbers of its receivers
-abbrev pub pairs_heard : List ℕ → List Bool → List (ℕ × Page)
-pairs_heard capcodes bits = shown (is_paired (alone_from 1 capcodes)) (pages_heard capcodes bits)
-
--- what receivers print of the bits that have one of these capcodes each, and are numbered in their order
-abbrev pub play_lines : List ℕ → List Bool → List ℕ
-play_lines capcodes = lines_heard (is_one_of capcodes) (is_paired (alone_from 1 capcodes))
+-- what these receivers print of the bits
+abbrev pub play_lines : List (List ℕ) → List Bool → List ℕ
+play_lines receivers = lines_heard (is_one_of (concat receivers)) (has_of receivers)

@@ -1,7 +1,7 @@
 //! From bits to printed lines: the commands `play` and `show`, and hearing through a noise.
 //!
 //! - `listening`: hearing bits one piece after another, and printing what they give.
-//! - `playing`: the receivers of `play` with the lines that they print, and `play` and `show` over any bits.
+//! - `playing`: the lines that receivers print, and `play` and `show` over any bits.
 //! - `table`: the table of the sync words and slots that are heard, for `show`.
 //! - `noise`: hearing bits through a noise.
 //! - `hearing`: `play` and `show` over the bits of a file.
@@ -14,4 +14,4 @@ pub mod playing;
 pub mod table;
 
 pub use hearing::{play_file, show_file};
-pub use playing::{group_of, play, show};
+pub use playing::{play, show};

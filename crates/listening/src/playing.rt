@@ -1,29 +1,24 @@
 //! The commands `play` and `show`: what is heard in bits, as pages and as a table.
 
-ghost use Rattle.std.specs.Prelude.{◌≡◌, ◌≤◌, ◌++◌, [], IfOk, length};
+ghost use Rattle.std.specs.Prelude.{◌≡◌, ◌≤◌, ◌++◌, [], length};
 ghost use Rattle.page_text.specs.Line.{line_of};
 ghost use Rattle.receiver.specs.Listeners.{StandsFor};
 ghost use Rattle.receiver.specs.Receivers.{has_in, numbers_with};
 ghost use Rattle.listening.specs.Listening.{HasListened, OutWell};
-ghost use Rattle.listening.specs.PageLines.{group_lines, lines_for, number_text, play_lines};
+ghost use Rattle.listening.specs.PageLines.{group_lines, lines_for, number_text};
 ghost use Rattle.wires.specs.Written.{Puts};
 ghost use Rattle.listening.specs.Table.{table_of};
 
 use crate::listening::{Listener, listen};
 use crate::table::Table;
-use codeword::Capcode;
 use endings::statuses::Status;
-use page_text::line;
+use page_text::{LONGEST_READ, line};
 use receiver::{Group, Ready};
-use std::alloc::Global;
+use wires::Failed;
 use wires::piece::Piece;
 use wires::sink::Sink;
 use wires::source::BitSource;
 use wires::steps::{Steps, Work};
-use wires::{Failed, Memory};
-
-/// The most bytes that the text of a page has.
-const LONGEST_TEXT: usize = 700;
 
 /// The most receivers of a group.
 const MOST_RECEIVERS: u32 = 64;
@@ -38,7 +33,7 @@ impl Listener for Group {
         let Some(page) = self.feed_piece(piece, &mut steps) else {
             return Ok(());
         };
-        let mut text = [0; LONGEST_TEXT];
+        let mut text = [0; LONGEST_READ];
         let length = self.text(&mut text);
         show_page(self, &page, &text[..length], out)
     }
@@ -46,7 +41,7 @@ impl Listener for Group {
 
 /// Puts the line of a page for each receiver of the group that has its capcode.
 fn show_page<O: Sink>(group: &Group, page: &Ready, text: &[u8], out: &mut O) -> Result<(), Failed>
-    requires { length text.now ≤ 700 }
+    requires { length text.now ≤ LONGEST_READ }
     ensures { Puts (O.state out.old) (O.state out.new) (lines_for page.now.capcode page.now.function text.now (numbers_with (has_in group.now.holders) page.now.capcode)) result }
 {
     for k in 0..MOST_RECEIVERS {
@@ -62,7 +57,7 @@ fn show_page<O: Sink>(group: &Group, page: &Ready, text: &[u8], out: &mut O) -> 
 
 /// Puts the line of a page for the receiver of this number.
 fn show_line<O: Sink>(number: u32, page: &Ready, text: &[u8], out: &mut O) -> Result<(), Failed>
-    requires { length text.now ≤ 700 }
+    requires { length text.now ≤ LONGEST_READ }
     ensures { Puts (O.state out.old) (O.state out.new) (number_text number ++ line_of page.now.capcode page.now.function text.now) result }
 {
     if let Err(Failed) = out.put(&number_digits(number)) {
@@ -80,23 +75,6 @@ fn number_digits(number: u32) -> [u8; 3]
         b'0' + (number % 10) as u8,
         b' ',
     ]
-}
-
-/// A group in which each of these capcodes is that of a receiver, numbered from 1 in their order.
-pub fn group_of(alloc: Global, capcodes: &[Capcode]) -> Result<Group, Memory>
-    requires few { length capcodes.now ≤ 64 }
-    ensures prints { IfOk result (λ g. group_lines g ≡ play_lines capcodes.now) }
-    ensures stands { IfOk result (λ g. StandsFor g []) }
-{
-    let mut pairs = Vec::new(alloc);
-    let mut number = 1;
-    for capcode in capcodes {
-        let Ok(()) = pairs.push((number, *capcode)) else {
-            return Err(Memory);
-        };
-        number += 1;
-    }
-    Group::new(alloc, &pairs)
 }
 
 /// Plays receivers over bits: puts the printed line of each page that the group hears, as it is complete, once for each receiver that has

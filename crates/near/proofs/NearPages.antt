@@ -23,6 +23,7 @@ use Rattle.codeword.proofs.Carried.{address_of-codeword, address_of-lt, message_
 use Rattle.codeword.proofs.Known.{idle_is}
 use Rattle.codeword.proofs.Runs.{idle_codeword}
 use Rattle.codeword.proofs.Said.{addresses_are_read, messages_are_read}
+use Rattle.page_text.specs.declared.limits.TheConstants.{MOST_GROUPS}
 use Rattle.page_text.specs.Groups.{pieces as bit_pieces, groups_of, groups}
 use Rattle.page_text.specs.Page.{Page, IsAcceptable}
 use Rattle.page_text.proofs.Back.{length-groups, text_of-groups}
@@ -205,7 +206,7 @@ idle_silent listens start (Some gs) u =
       | inr other ↦ other
     ] in
     ap (λ (t : Bool). page_if t (capcode_at start idle_high) Numeric gs)
-    (and_left (listens (capcode_at start idle_high)) (nat_le (length gs) 140) silent)
+    (and_left (listens (capcode_at start idle_high)) (nat_le (length gs) MOST_GROUPS) silent)
 
 text_read : (page : Page) → IsAcceptable page
     → with_text (record { capcode = page.capcode; function = page.function; groups = groups page.function page.text }) ≡ page
@@ -222,9 +223,9 @@ run_page : (listens : ℕ → Bool) (start : ℕ) (page : Page) (rest : List Pag
     ≡ cond (listens page.capcode) (page ∷ rest) rest
 run_page listens start page rest f a =
     let c : capcode_at start (high_of page.capcode) ≡ page.capcode = omega arith in
-    ap (λ (n : ℕ). map with_text (page_if (listens n && nat_le (length (groups page.function page.text)) 140) n page.function (groups page.function page.text)) ++ rest) c
+    ap (λ (n : ℕ). map with_text (page_if (listens n && nat_le (length (groups page.function page.text)) MOST_GROUPS) n page.function (groups page.function page.text)) ++ rest) c
     ∙ ap (λ (t : Bool). map with_text (page_if (listens page.capcode && t) page.capcode page.function (groups page.function page.text)) ++ rest)
-    (le-leb (length (groups page.function page.text)) 140 (length-groups page.function page.text a.fits))
+    (le-leb (length (groups page.function page.text)) MOST_GROUPS (length-groups page.function page.text a.fits))
     ∙ page_kept (listens page.capcode) page rest a
 
 pub pages_of_pieces : (listens : ℕ → Bool) (start : ℕ) (before : List PlanPiece) → AreUsable listens → ArePlaced start (before ++ Idle ∷ [])

@@ -1,5 +1,5 @@
 -- `put`, over the fields of a pool.
-use Rattle.std.proofs.Common.{◌≡◌, ℕ, suc, ◌+◌, ◌-◌, ◌*◌, ◌<◌, ◌≤◌, cond, ◌==◌, List, [], ◌∷◌, ◌++◌, map, length, get_or, take, drop, refl, sym, ◌∙◌, ap, subst, arith, length-append}
+use Rattle.std.proofs.Common.{◌≡◌, ℕ, suc, ◌+◌, ◌-◌, ◌*◌, ◌<◌, ◌≤◌, cond, ◌==◌, List, [], ◌∷◌, ◌++◌, map, length, get_or, take, drop, refl, sym, ◌∙◌, ap, arith, length-append}
 use Rattle.std.specs.Prelude.{slice_set, Some}
 use Rattle.codeword.specs.declared.functions.Function.{Function}
 use Rattle.codeword.specs.Capcodes.{frame_of}
@@ -58,16 +58,12 @@ module _ (s : Inside) (r : PoolHolds s) (n k : ℕ) (kind : k ≡ cells_for n) (
   pub apart : (x : ℕ) → times x (walk (link_of links') (cells_for n) s.free) ≤ 1
   apart x = omega (arith, ap (times x) walk_is, mine_part x, facts.one s.bytes.items s.links.items s.heads.items s.free s.spare s.first s.last s.count s.frames r x)
 
-  -- the same, as the call of `cell_at` asks
-  pub cells_below' : (x : ℕ) → 0 < times x (walk (link_of links') (k - 1 + 1) s.free) → x < length links'
-  cells_below' x h = let e : k - 1 + 1 ≡ cells_for n = omega (arith, kind, m.1) in cells_below x (subst (λ j. 0 < times x (walk (link_of links') j s.free)) e h)
-
   -- the last of them
-  pub end_is : (end : ℕ) → end ≡ cell_behind (link_of links') (k - 1) s.free → end ≡ cell_behind f m.0 s.free
-  end_is end h = let a : k - 1 ≡ m.0 = omega (arith, kind, m.1) in h ∙ ap (λ j. cell_behind (link_of links') j s.free) a ∙ ap (λ z. cell_behind (link_of z) m.0 s.free) same
+  pub end_is : (end : ℕ) → end ≡ cell_behind (link_of links') (cells_for n - 1) s.free → end ≡ cell_behind f m.0 s.free
+  end_is end h = let a : cells_for n - 1 ≡ m.0 = omega (arith, m.1) in h ∙ ap (λ j. cell_behind (link_of links') j s.free) a ∙ ap (λ z. cell_behind (link_of z) m.0 s.free) same
 
   -- it is a cell
-  pub end_below : (end : ℕ) → end ≡ cell_behind (link_of links') (k - 1) s.free → end < length links'
+  pub end_below : (end : ℕ) → end ≡ cell_behind (link_of links') (cells_for n - 1) s.free → end < length links'
   end_below end h =
       let a : times end (walk f (suc m.0) s.free) ≡ times end (walk f m.0 s.free) + times end (cell_behind f m.0 s.free ∷ []) = ap (times end) (walk_more f m.0 s.free) ∙ times-append end (walk f m.0 s.free) (cell_behind f m.0 s.free ∷ []) in
       let b : times end (cell_behind f m.0 s.free ∷ []) ≡ 1 = ap (λ z. times end (z ∷ [])) (sym (end_is end h)) ∙ times-one end in
@@ -82,11 +78,11 @@ pub counted : (s : Inside) (r : PoolHolds s) → s.count ≤ 65536
 counted s r = omega (arith, r.count_is, r.total, r.most, firsts_fit (places s.links.items s.heads.items) r.order (own s.links.items s.heads.items), length-append (used s.links.items s.heads.items r.order) r.unused)
 
 module _ (s : Inside) (r : PoolHolds s) (w : Pool) (v : view_of s ≡ w) (capcode : ℕ) (function : Function) (frame : ℕ) (frame_is : frame ≡ frame_of capcode) (t : List ℕ) (fits : FitsPage (page capcode function t))
-    (k : ℕ) (kind : k ≡ cells_for (length t)) (room : k ≤ s.spare) (l0 l1 : List ℕ) (same0 : l0 ≡ s.links.items) (same1 : l1 ≡ s.links.items)
+    (k : ℕ) (kind : k ≡ cells_for (length t)) (room : k ≤ s.spare) (l0 : List ℕ) (same0 : l0 ≡ s.links.items)
     (b0 bytes' B : List ℕ) (b0_is : b0 ≡ s.bytes.items) (same_size : length bytes' ≡ length b0)
     (written : text_in_cells bytes' (walk (link_of l0) (cells_for (length t)) s.free) (length t) ≡ t)
     (others : (q : ℕ) → times q (walk (link_of l0) (cells_for (length t)) s.free) ≡ 0 → (j : ℕ) → j < 32 → get_or bytes' (32 * q + j) 0 ≡ get_or b0 (32 * q + j) 0)
-    (end : ℕ) (end_found : end ≡ cell_behind (link_of l1) (k - 1) s.free) (l2 L : List ℕ) (F : ℕ) (same2 : l2 ≡ s.links.items) (F_is : F ≡ link_of l2 end)
+    (end : ℕ) (end_found : end ≡ cell_behind (link_of l0) (cells_for (length t) - 1) s.free) (l2 L : List ℕ) (F : ℕ) (same2 : l2 ≡ s.links.items) (F_is : F ≡ link_of l2 end)
     (H : List Head) (A : ℕ)
     (B_is : B ≡ bytes') (L_is : L ≡ slice_set s.links.items end NONE)
     (H_from : H ≡ linked s.heads.items s.free (record { address = Some (record { capcode = capcode; function = function }); length = length t; before = s.last; after = NONE; peer_before = (ends s.frames frame).last; peer_after = NONE }))
@@ -110,11 +106,11 @@ module _ (s : Inside) (r : PoolHolds s) (w : Pool) (v : view_of s ≡ w) (capcod
 
   -- the page takes one cell and so many more
   abbrev pub j : (i : ℕ) × (cells_for (length t) ≡ suc i)
-  j = m s r (length t) k kind room l1 same1
+  j = m s r (length t) k kind room l0 same0
 
   -- its last cell
   last : end ≡ cell_behind (link_of s.links.items) j.0 s.free
-  last = end_is s r (length t) k kind room l1 same1 end end_found
+  last = end_is s r (length t) k kind room l0 same0 end end_found
 
   -- its cells
   cells0 : walk (link_of l0) (cells_for (length t)) s.free ≡ walk (link_of s.links.items) (suc j.0) s.free

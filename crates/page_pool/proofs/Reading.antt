@@ -4,6 +4,7 @@ use Rattle.std.specs.Prelude.{slice_index}
 use Rattle.std.specs.Option.{is_some}
 use Rattle.std.specs.List.{filter, find}
 use Rattle.std.proofs.Common.{Option, None, Some, IsSome}
+use Rattle.page_text.specs.declared.limits.TheConstants.{LONGEST_TEXT}
 use Rattle.page_pool.proofs.Peers.{times-filter}
 use Rattle.std.proofs.Math.Dec.{eqb-suc-zero}
 use Rattle.std.proofs.lemmas.List.{map-append}
@@ -11,14 +12,15 @@ use Rattle.std.proofs.lemmas.List.FromFn.{get_or-map-range_with_len}
 use Rattle.page_pool.specs.Cells.{cells_for, cells_of}
 use Rattle.page_pool.specs.Chain.{first_or, walk, times, cell_behind}
 use Rattle.page_pool.specs.Pool.{Live, Pool, Names, IsLive, live_in_frame}
-use Rattle.page_pool.specs.Layout.{NONE, head, of_frame, ends, places, link_of, byte_at, text_in_cells, entry}
+use Rattle.page_pool.specs.Layout.{NONE, head, of_frame, ends, places, link_of, cells_from, byte_at, text_in_cells, entry}
 use Rattle.page_pool.specs.Region.{view_of, PoolHolds}
 use Rattle.page_pool.specs.declared.heads.Head.{Head}
 use Rattle.page_pool.specs.declared.pool.Pool.TheInside.{Inside}
 use Rattle.page_pool.proofs.Chains.{times-append, times-self, splits, get_or-walk}
-use Rattle.page_pool.proofs.Texts.{cells_for-enough, step_in, fits-short}
+use Rattle.page_pool.proofs.Texts.{fits-short}
 use Rattle.page_pool.proofs.Named.{Split, map_split, length-text}
 use Rattle.page_pool.proofs.Facts as facts
+use Rattle.page_pool.proofs.Taking.{read_head}
 
 -- a shorter walk has no cell more often
 pub times-walk : (f : ℕ → ℕ) (x j n c : ℕ) → j ≤ n → times x (walk f j c) ≤ times x (walk f n c)
@@ -132,27 +134,40 @@ module _ (s : Inside) (r : PoolHolds s) (w : Pool) (v : view_of s ≡ w) where
         let f = facts.below_used s.bytes.items links hs s.free s.spare s.first s.last s.count s.frames r x (omega (arith, a, b, d, j)) in
         omega (arith, f, r.links_cells, ap length same)
 
+    -- all its cells are cells
+    pub all_below : (size : ℕ) → size ≡ (head hs t).length → (links' : List ℕ) → links' ≡ links → (x : ℕ) → 0 < times x (cells_from links' t size) → x < length links'
+    all_below size size_is links' same x j =
+        let a : times x (cells_from links' t size) ≡ times x (places links hs t) = ap (λ z. times x (cells_from z t size)) same ∙ ap (λ z. times x (cells_from links t z)) size_is in
+        let d = facts.part s.bytes.items links hs s.free s.spare s.first s.last s.count s.frames r x t in_order in
+        let f = facts.below_used s.bytes.items links hs s.free s.spare s.first s.last s.count s.frames r x (omega (arith, a, d, j)) in
+        omega (arith, f, r.links_cells, ap length same)
+
+    -- its text lies along them
+    pub text_along : (size : ℕ) → size ≡ (head hs t).length → (bytes' links' : List ℕ) → bytes' ≡ s.bytes.items → links' ≡ links
+        → text_in_cells bytes' (cells_from links' t size) size ≡ e.page.text
+    text_along size size_is bytes' links' same same' =
+        ap (λ z. text_in_cells z (cells_from links' t size) size) same ∙ ap (λ z. text_in_cells s.bytes.items (cells_from z t size) size) same'
+        ∙ ap (λ z. text_in_cells s.bytes.items (cells_from links t z) z) size_is ∙ ap (λ x. x.page.text) entry_is
+
     -- its places are counted by its length
     pub place_in : (k : ℕ) → k < cells_of e.page → k < cells_for (head hs t).length
     place_in k h = subst (λ z. k < cells_for z) len_is h
 
-    -- its bytes lie in its cells
-    pub byte_in : (i : ℕ) → i < length e.page.text → i / 32 < cells_for (head hs t).length
-    byte_in i h = cells_for-enough (head hs t).length i (omega (arith, h, len_is))
-
-    -- it has at most 400 characters
-    pub short : length e.page.text ≤ 400
+    -- it has no more characters than the limit
+    pub short : length e.page.text ≤ LONGEST_TEXT
     short = let f = r.fits t in_order in omega (arith, fits-short (at t).page f, len_is, length-text s.bytes.items (places links hs t) (head hs t).length)
+
+    -- the length that is read at its head
+    pub length_read : (h : Head) → h ≡ get_or hs t h → h.length ≡ (head hs t).length
+    length_read h e = ap (λ (k : Head). k.length) (read_head hs t h below e)
+
+    -- it fits where as many characters fit
+    pub length_fits : (h : Head) → h ≡ get_or hs t h → (room : ℕ) → LONGEST_TEXT ≤ room → h.length ≤ room
+    length_fits h e room m = omega (arith, length_read h e, len_is, short, m)
 
     -- place k is the cell behind k links
     pub place_is : (k : ℕ) → k < cells_for (head hs t).length → (links' : List ℕ) → links' ≡ links → cell_behind (link_of links') k t ≡ slice_index e.places k
     place_is k h links' same = ap (λ z. cell_behind (link_of z) k t) same ∙ sym (get_or-walk (link_of links) (cells_for (head hs t).length) t k 0 h) ∙ ap (λ x. get_or x.places k 0) entry_is
-
-    -- the cell of a byte is one of the region's
-    pub cell_below : (k : ℕ) → k < cells_for (head hs t).length → (links' : List ℕ) → links' ≡ links → cell_behind (link_of links') k t < length hs
-    cell_below k h links' same =
-        let f = cells_below k h links' same (cell_behind (link_of links') k t) (step_in (link_of links') (k + 1) t k (omega arith)) in
-        omega (arith, f, r.links_cells, ap length same)
 
     -- byte i lies at its place
     pub byte_is : (i : ℕ) → i < length e.page.text → slice_index e.page.text i ≡ get_or s.bytes.items (32 * slice_index e.places (i / 32) + i % 32) 0

@@ -1,6 +1,7 @@
 -- `take`, over the fields of a pool.
 use Rattle.std.proofs.Common.{◌≡◌, ℕ, zero, suc, ◌+◌, ◌-◌, ◌<◌, ◌≤◌, cond, ◌==◌, List, [], ◌∷◌, ◌++◌, map, length, get_or, refl, sym, ◌∙◌, ap, subst, arith}
 use Rattle.std.specs.Prelude.{slice_set}
+use Rattle.page_text.specs.declared.limits.TheConstants.{LONGEST_TEXT}
 use Rattle.page_pool.specs.Cells.{FitsPage, cells_for, cells_of}
 use Rattle.page_pool.specs.Chain.{walk, times, cell_behind}
 use Rattle.page_pool.specs.Pool.{Pool, IsLive, TakesPage}
@@ -48,8 +49,8 @@ module _ (s : Inside) (r : PoolHolds s) (w : Pool) (v : view_of s ≡ w) (t name
   pub below : t < length hs
   below = take.t_below s.bytes.items links hs s.free s.spare s.first s.last s.count s.frames r t m.0 sp.0 sp.1 sp.2 m.1
 
-  -- it has at most 400 characters
-  pub short : (head hs t).length ≤ 400
+  -- it has no more characters than the limit
+  pub short : (head hs t).length ≤ LONGEST_TEXT
   short =
       let f : FitsPage (page_at s.bytes.items links hs t) = r.fits t (take.t_order s.bytes.items links hs s.free s.spare s.first s.last s.count s.frames r t m.0 sp.0 sp.1 sp.2 m.1) in
       omega (arith, fits-short (page_at s.bytes.items links hs t) f, length-text s.bytes.items (places links hs t) (head hs t).length)

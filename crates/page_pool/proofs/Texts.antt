@@ -6,6 +6,7 @@ use Rattle.std.proofs.lemmas.List.{get_or-set_same, get_or-set_other}
 use Rattle.std.proofs.lemmas.List.FromFn.{fill_by_all}
 use Rattle.codeword.specs.declared.functions.Function.{Function}
 use Rattle.codeword.specs.declared.functions.Function.TheVariants.{Numeric, Tone1, Tone2, Alpha}
+use Rattle.page_text.specs.declared.limits.TheConstants.{LONGEST_TEXT}
 use Rattle.page_text.specs.Fits.{Fits}
 use Rattle.page_text.specs.Page.{Page}
 use Rattle.page_pool.specs.Cells.{FitsPage, cells_for}
@@ -14,14 +15,14 @@ use Rattle.page_pool.specs.Layout.{byte_at, text_in_cells}
 use Rattle.page_pool.proofs.Chains.{times-read, length-walk, get_or-walk, read_apart, step_more}
 
 -- the same, by the function
-short : (function : Function) (text_in_cells : List ℕ) → Fits function text_in_cells → length text_in_cells ≤ 400
+short : (function : Function) (text_in_cells : List ℕ) → Fits function text_in_cells → length text_in_cells ≤ LONGEST_TEXT
 short Numeric text_in_cells f = omega (arith, f.short)
 short Tone1 text_in_cells f = omega (arith, ap length f)
 short Tone2 text_in_cells f = omega (arith, ap length f)
 short Alpha text_in_cells f = f.short
 
--- a text that fits its function has at most 400 characters
-pub fits-short : (p : Page) → FitsPage p → length p.text ≤ 400
+-- a text that fits its function has no more characters than the limit
+pub fits-short : (p : Page) → FitsPage p → length p.text ≤ LONGEST_TEXT
 fits-short p f = short p.function p.text f
 
 -- at least one cell, and enough of them
@@ -101,3 +102,12 @@ cell_stays f from i old new e z n = n ∙ e ∙ ap (λ k. cell_behind f k from) 
 -- the same at the first byte
 pub cell_starts : (f : ℕ → ℕ) (from i old new : ℕ) → old ≡ cell_behind f ((i - 1) / 32) from → i ≤ 0 → new ≡ old → new ≡ cell_behind f (i / 32) from
 cell_starts f from i old new e z n = n ∙ e ∙ ap (λ k. cell_behind f k from) (let d : (i - 1) / 32 ≡ i / 32 = omega (arith, z) in d)
+
+-- one character more was read
+pub read_more : (into : List ℕ) (g : ℕ → ℕ) (i v : ℕ) → i < length into → v ≡ g i → ((k : ℕ) → k < i → get_or into k 0 ≡ g k)
+    → (k : ℕ) → k < i + 1 → get_or (set into i v) k 0 ≡ g k
+read_more into g i v within read before k h =
+    elim (eqb_tells k i) [
+      | inl e ↦ ap (λ z. get_or (set into i v) z 0) e.1 ∙ get_or-set_same into i v 0 within ∙ read ∙ ap g (sym e.1)
+      | inr ne ↦ get_or-set_other into i k v 0 ne.1 ∙ before k (omega (arith, h, ne.1))
+    ]

@@ -1,14 +1,15 @@
 //! The pool and its calls.
 
-ghost use Rattle.std.specs.Prelude.{◌≡◌, ℕ, ◌<◌, ◌≤◌, ◌↔◌, length, IsTrue, IsErr, OnOk, OnErr, IfOk, MatchOption, [], slice_index};
+ghost use Rattle.std.specs.Prelude.{◌≡◌, ℕ, ◌<◌, ◌≤◌, ◌↔◌, length, drop, IsTrue, IsErr, OnOk, OnErr, IfOk, MatchOption, [], ◌++◌, slice_index};
 ghost use Rattle.std.specs.List.{find};
 ghost use Rattle.std.specs.Option.{option_map};
 ghost use Rattle.page_text.specs.Fits.{Fits};
 ghost use Rattle.page_pool.specs.Cells.{cells_for, cells_of};
 
-use crate::cells::{CELL, NONE, cell_at, cells_for, chain_all, set_link, write_text};
+use crate::cells::{CELL, NONE, cell_at, cells_for, chain_all, read_text, set_link, write_text};
 use crate::heads::{Address, Ends, Head, NO_PAGE, frame_in, link, replaced, set_ends, unlink};
 use codeword::{Capcode, Function};
+use page_text::LONGEST_TEXT;
 use std::alloc::Global;
 use std::marker::Model;
 use wires::Memory;
@@ -112,8 +113,7 @@ impl Pool {
             return Err(Full);
         }
         let cell = self.free;
-        write_text(&mut self.bytes, &self.links, cell, text);
-        let end = cell_at(&self.links, cell, cells - 1);
+        let end = write_text(&mut self.bytes, &self.links, cell, text);
         self.free = set_link(&mut self.links, end, NONE);
         self.spare -= cells;
         let frame = capcode.frame();
@@ -204,7 +204,7 @@ impl Pool {
         address.function
     }
 
-    /// How many characters the text of a live page has, from 0 to 400.
+    /// How many characters the text of a live page has, from 0 to `LONGEST_TEXT`.
     pub fn length(&self, t: Ticket) -> usize
         requires { IsLive self.now t }
         ensures { (e : Live) → Names self.now t e → result ≡ length e.page.text }
@@ -213,13 +213,18 @@ impl Pool {
         head.length as usize
     }
 
-    /// Character `i` of a live page's text, from 0. `i` is below its length.
-    pub fn byte(&self, t: Ticket, i: usize) -> u8
-        requires { (e : Live) × Names self.now t e × (i < length e.page.text) }
-        ensures { (e : Live) → Names self.now t e → result ≡ slice_index e.page.text i }
+    /// Copies the text of a live page to the front of `into`, and answers how many characters it has, from 0 to `LONGEST_TEXT`. The rest of
+    /// `into` stays as it was.
+    pub fn copy_text(&self, t: Ticket, into: &mut [u8]) -> usize
+        requires live { IsLive self.now t }
+        requires room { LONGEST_TEXT ≤ length into.old }
+        ensures length { (e : Live) → Names self.now t e → result ≡ length e.page.text }
+        ensures text { (e : Live) → Names self.now t e → into.new ≡ e.page.text ++ drop (length e.page.text) into.old }
     {
-        let cell = cell_at(&self.links, t.cell, (i / CELL) as u32);
-        self.bytes[CELL * cell as usize + i % CELL]
+        let head = self.heads[t.cell as usize];
+        let length = head.length as usize;
+        read_text(&self.bytes, &self.links, t.cell, &mut into[..length]);
+        length
     }
 
     /// Takes a live page out. The others keep their order and their cells, and its cells are spare.

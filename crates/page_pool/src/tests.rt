@@ -5,7 +5,7 @@ ghost use Rattle.page_pool.specs.Pool.{IsLive};
 use crate::twin::{ListPool, Page};
 use crate::*;
 use codeword::{Capcode, Function};
-use page_text::fits;
+use page_text::{LONGEST_TEXT, fits};
 use std::alloc::{AllocError, Global};
 use std::process::Abort;
 use std::test::Fail;
@@ -57,11 +57,12 @@ fn take(pool: &mut Pool, frame: u32) {
 fn text(alloc: Global, pool: &Pool, t: Ticket) -> Result<Vec<u8>, AllocError>
     requires { IsLive pool.now t }
 {
-    let mut text = Vec::new(alloc);
-    for i in 0..pool.length(t) {
-        text.push(pool.byte(t, i))?;
+    let mut text = [0; LONGEST_TEXT];
+    let length = pool.copy_text(t, &mut text);
+    match text.get(..length) {
+        Some(text) => text.to_vec(alloc),
+        None => Ok(Vec::new(alloc)),
     }
-    Ok(text)
 }
 
 /// The first page of a frame.

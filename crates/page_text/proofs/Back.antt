@@ -11,6 +11,7 @@ use Rattle.bits.proofs.Lengths.{length-rising_bits_of}
 use Rattle.bits.proofs.Numbers.{bit_value-eqb, bits_of-number}
 use Rattle.codeword.specs.declared.functions.Function.{Function}
 use Rattle.codeword.specs.declared.functions.Function.TheVariants.{Numeric, Tone1, Tone2, Alpha}
+use Rattle.page_text.specs.declared.limits.TheConstants.{LONGEST_NUMERIC, LONGEST_TEXT, MOST_GROUPS}
 use Rattle.page_text.specs.Fits.{Fits, FitsNumeric, FitsAlpha, IsAlpha}
 use Rattle.page_text.specs.Groups.{pieces, code_bits, group_count, groups_of, groups, numeric_characters, numeric_code}
 use Rattle.page_text.specs.Texts.{rising_number, group_bits, codes_of, kept, stripped, numeric_character, text_of}
@@ -127,7 +128,7 @@ pub numeric-back : (text : List ℕ) → FitsNumeric text → stripped 32 (map n
 numeric-back text fits =
     let codes : List ℕ = map numeric_code text in
     let size : length codes ≡ length text = length-map text numeric_code in
-    let short : length text ≤ 40 = fits.short in
+    let short : length text ≤ LONGEST_NUMERIC = fits.short in
     let n : ℕ = group_count 4 (length codes) in
     let m : ℕ = 20 * n / 4 in
     let small : All (λ c. c < 2 ^ 4) codes = All-map (λ c. c < 2 ^ 4) numeric_code text (λ k d l. (numeric_code-is _ (fits.alphabet k d l)).0) in
@@ -142,7 +143,7 @@ numeric-back text fits =
 -- an alphanumeric text is read back
 pub alpha-back : (text : List ℕ) → FitsAlpha text → stripped 0 (codes_of 7 (groups_of 7 0 text)) ≡ text
 alpha-back text fits =
-    let short : length text ≤ 400 = fits.short in
+    let short : length text ≤ LONGEST_TEXT = fits.short in
     let n : ℕ = group_count 7 (length text) in
     let m : ℕ = 20 * n / 7 in
     let small : All (λ c. c < 2 ^ 7) text = λ k d l. (is_alpha-small _ (fits.alphabet k d l)).0 in
@@ -157,8 +158,8 @@ text_of-groups Tone1 text fits = sym fits
 text_of-groups Tone2 text fits = sym fits
 text_of-groups Alpha text fits = alpha-back text fits
 
--- it has at most 140 groups
-pub length-groups : (function : Function) (text : List ℕ) → Fits function text → length (groups function text) ≤ 140
+-- it has no more groups than the limit
+pub length-groups : (function : Function) (text : List ℕ) → Fits function text → length (groups function text) ≤ MOST_GROUPS
 length-groups Numeric text fits =
     let codes : List ℕ = map numeric_code text in
     let size : length codes ≡ length text = length-map text numeric_code in

@@ -10,6 +10,7 @@ use Rattle.std.proofs.lemmas.List.Elements.{All-nil, All-cons, All-head, All-tai
 use Rattle.std.proofs.lemmas.Map.Views.{list_any-from_Contains, Contains-from_any}
 use Rattle.codeword.specs.declared.functions.Function.{Function}
 use Rattle.codeword.specs.declared.functions.Function.TheVariants.{Numeric, Tone1, Tone2, Alpha}
+use Rattle.page_text.specs.declared.limits.TheConstants.{LONGEST_NUMERIC, LONGEST_TEXT}
 use Rattle.page_text.specs.Groups.{numeric_characters}
 use Rattle.page_text.specs.Fits.{IsAlpha, Fits}
 use Rattle.page_text.specs.FitTest.{is_numeric, is_alpha, ends_in_space, fits}
@@ -116,8 +117,8 @@ nil_from_test text h = nil_from_length text (eqb-true (length text) 0 h)
 -- a text that passes the test fits
 pub fits_from_test : (function : Function) (text : List ℕ) → fits function text ≡ true → Fits function text
 fits_from_test Numeric text h =
-    let short = first_true (nat_le (length text) 40) (list_all is_numeric text && not (ends_in_space text)) h in
-    let rest = second_true (nat_le (length text) 40) (list_all is_numeric text && not (ends_in_space text)) h in
+    let short = first_true (nat_le (length text) LONGEST_NUMERIC) (list_all is_numeric text && not (ends_in_space text)) h in
+    let rest = second_true (nat_le (length text) LONGEST_NUMERIC) (list_all is_numeric text && not (ends_in_space text)) h in
     let last = not_false (ends_in_space text) (second_true (list_all is_numeric text) (not (ends_in_space text)) rest) in
     record {
       short = grind (arith, nat_tests, short);
@@ -127,19 +128,19 @@ fits_from_test Numeric text h =
 fits_from_test Tone1 text h = nil_from_test text h
 fits_from_test Tone2 text h = nil_from_test text h
 fits_from_test Alpha text h =
-    let short = first_true (nat_le (length text) 400) (list_all is_alpha text) h in record {
+    let short = first_true (nat_le (length text) LONGEST_TEXT) (list_all is_alpha text) h in record {
       short = grind (arith, nat_tests, short);
-      alphabet = all_from_test IsAlpha is_alpha alpha_from_test text (second_true (nat_le (length text) 400) (list_all is_alpha text) h);
+      alphabet = all_from_test IsAlpha is_alpha alpha_from_test text (second_true (nat_le (length text) LONGEST_TEXT) (list_all is_alpha text) h);
     }
 
 -- a text that fits passes the test
 pub test_from_fits : (function : Function) (text : List ℕ) → Fits function text → fits function text ≡ true
 test_from_fits Numeric text h =
-    let short : nat_le (length text) 40 ≡ true = (let s = h.short in grind (arith, nat_tests)) in
-    both_true (nat_le (length text) 40) (list_all is_numeric text && not (ends_in_space text)) short
+    let short : nat_le (length text) LONGEST_NUMERIC ≡ true = (let s = h.short in grind (arith, nat_tests)) in
+    both_true (nat_le (length text) LONGEST_NUMERIC) (list_all is_numeric text && not (ends_in_space text)) short
     (both_true (list_all is_numeric text) (not (ends_in_space text)) (test_from_all (Contains numeric_characters) is_numeric test_from_numeric text h.alphabet) (no_space text h.no_space))
 test_from_fits Tone1 text h = ap (λ z. length z == 0) h
 test_from_fits Tone2 text h = ap (λ z. length z == 0) h
 test_from_fits Alpha text h =
-    let short : nat_le (length text) 400 ≡ true = (let s = h.short in grind (arith, nat_tests)) in
-    both_true (nat_le (length text) 400) (list_all is_alpha text) short (test_from_all IsAlpha is_alpha test_from_alpha text h.alphabet)
+    let short : nat_le (length text) LONGEST_TEXT ≡ true = (let s = h.short in grind (arith, nat_tests)) in
+    both_true (nat_le (length text) LONGEST_TEXT) (list_all is_alpha text) short (test_from_all IsAlpha is_alpha test_from_alpha text h.alphabet)

@@ -7,6 +7,7 @@ use Rattle.std.specs.Prelude.{slice_set}
 use Rattle.bits.specs.Bits.{bits_of, bit_value}
 use Rattle.bits.proofs.Lengths.{length-bits_of}
 use Rattle.bits.proofs.Numbers.{bit_value-eqb, bit_value-lt}
+use Rattle.page_text.specs.declared.limits.TheConstants.{LONGEST_READ, MOST_GROUPS}
 use Rattle.page_text.specs.Texts.{rising_number, group_bits, codes_of, kept, stripped}
 use Rattle.page_text.proofs.Groups.{bit_at}
 use Rattle.page_text.proofs.RunTogether.{length-flat_map, get_or-flat_map, length-pieces, get_or-pieces}
@@ -133,6 +134,6 @@ take-more-set xs ys k y l m e same =
 pub take-whole : (xs : List ℕ) (n : ℕ) → length xs ≡ n → take n xs ≡ xs
 take-whole xs n e = take_all n xs (omega (arith, e))
 
--- how many characters 140 groups have at most
-pub count-few : (n w : ℕ) → 4 ≤ w → n ≤ 140 → 20 * n / w ≤ 700
+-- how many characters the most groups have at most
+pub count-few : (n w : ℕ) → 4 ≤ w → n ≤ MOST_GROUPS → 20 * n / w ≤ LONGEST_READ
 count-few n w l m = div-le_of_le-mul w (omega (arith, l, m))

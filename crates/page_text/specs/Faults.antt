@@ -3,6 +3,7 @@ use Rattle.std.specs.Prelude.{◌≡◌, ◌≢◌, ℕ, ◌<◌, List, [], ◌�
 use Rattle.std.specs.Prelude.{length}
 use Rattle.codeword.specs.declared.functions.Function.{Function}
 use Rattle.codeword.specs.declared.functions.Function.TheVariants.{Numeric, Tone1, Tone2, Alpha}
+use Rattle.page_text.specs.declared.limits.TheConstants.{LONGEST_NUMERIC, LONGEST_TEXT}
 use Rattle.page_text.specs.declared.faults.TextFault.{TextFault}
 use Rattle.page_text.specs.declared.faults.TextFault.TheVariants.{NotEmpty, TooLong, Alphabet, EndsInSpace}
 use Rattle.page_text.specs.Groups.{numeric_characters}
@@ -15,12 +16,12 @@ IsToneWithText Tone1 text = text ≢ []
 IsToneWithText Tone2 text = text ≢ []
 IsToneWithText Alpha text = ⊥
 
--- more than 40 numeric or 400 alphanumeric characters
+-- more characters than the limit of the function
 abbrev pub IsTooLong : Function → List ℕ → Type 0
-IsTooLong Numeric text = 40 < length text
+IsTooLong Numeric text = LONGEST_NUMERIC < length text
 IsTooLong Tone1 text = ⊥
 IsTooLong Tone2 text = ⊥
-IsTooLong Alpha text = 400 < length text
+IsTooLong Alpha text = LONGEST_TEXT < length text
 
 -- a character outside the alphabet
 abbrev pub IsForeign : Function → List ℕ → Type 0

@@ -3,6 +3,7 @@ use Rattle.std.specs.Prelude.{ℕ, ◌==◌, nat_eq, nat_le, Bool, false, ◌&&�
 use Rattle.std.specs.List.{list_all, list_any}
 use Rattle.codeword.specs.declared.functions.Function.{Function}
 use Rattle.codeword.specs.declared.functions.Function.TheVariants.{Numeric, Tone1, Tone2, Alpha}
+use Rattle.page_text.specs.declared.limits.TheConstants.{LONGEST_NUMERIC, LONGEST_TEXT}
 use Rattle.page_text.specs.Groups.{numeric_characters}
 
 -- a numeric character
@@ -21,7 +22,7 @@ ends_in_space (c ∷ d ∷ x) = ends_in_space (d ∷ x)
 
 -- the text fits the function (`Fits` of the texts)
 abbrev pub fits : Function → List ℕ → Bool
-fits Numeric text = nat_le (length text) 40 && (list_all is_numeric text && not (ends_in_space text))
+fits Numeric text = nat_le (length text) LONGEST_NUMERIC && (list_all is_numeric text && not (ends_in_space text))
 fits Tone1 text = length text == 0
 fits Tone2 text = length text == 0
-fits Alpha text = nat_le (length text) 400 && list_all is_alpha text
+fits Alpha text = nat_le (length text) LONGEST_TEXT && list_all is_alpha text

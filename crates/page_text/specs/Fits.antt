@@ -2,11 +2,12 @@
 use Rattle.std.specs.Prelude.{◌≡◌, ◌≢◌, ℕ, ◌≤◌, ◌⊎◌, List, [], ◌∷◌, ◌++◌, length, All, Contains}
 use Rattle.codeword.specs.declared.functions.Function.{Function}
 use Rattle.codeword.specs.declared.functions.Function.TheVariants.{Numeric, Tone1, Tone2, Alpha}
+use Rattle.page_text.specs.declared.limits.TheConstants.{LONGEST_NUMERIC, LONGEST_TEXT}
 use Rattle.page_text.specs.Groups.{numeric_characters}
 
--- at most 40 numeric characters, the last of which isn't a space
+-- no more numeric characters than the limit, the last of which isn't a space
 pub record FitsNumeric (text : List ℕ) : Type 0 where
-  pub short : length text ≤ 40
+  pub short : length text ≤ LONGEST_NUMERIC
   pub alphabet : All (Contains numeric_characters) text
   pub no_space : (front : List ℕ) → text ≢ front ++ 32 ∷ []
 
@@ -14,9 +15,9 @@ pub record FitsNumeric (text : List ℕ) : Type 0 where
 abbrev pub IsAlpha : ℕ → Type 0
 IsAlpha c = ((32 ≤ c) × (c ≤ 126)) ⊎ ((c ≡ 13) ⊎ (c ≡ 10))
 
--- at most 400 of these
+-- no more of these than the limit
 pub record FitsAlpha (text : List ℕ) : Type 0 where
-  pub short : length text ≤ 400
+  pub short : length text ≤ LONGEST_TEXT
   pub alphabet : All IsAlpha text
 
 -- a tone has an empty text

@@ -5,7 +5,7 @@
 pub enum TextFault {
     /// A tone with a text that isn't empty.
     NotEmpty,
-    /// More than 40 numeric or 400 alphanumeric characters.
+    /// More characters than `LONGEST_NUMERIC` or `LONGEST_TEXT`.
     TooLong,
     /// A numeric text with a character that isn't one of the sixteen, or an alphanumeric one with a character other than 0x20 to
     /// 0x7E, CR and LF.

@@ -9,13 +9,8 @@ ghost use Rattle.page_text.specs.Groups.{numeric_characters};
 
 use crate::coding::NUMERIC_CHARACTERS;
 use crate::faults::TextFault;
+use crate::limits::{LONGEST_NUMERIC, LONGEST_TEXT};
 use codeword::Function;
-
-/// The most characters of a numeric text.
-const NUMERIC_LENGTH: usize = 40;
-
-/// The most characters of an alphanumeric text.
-const ALPHA_LENGTH: usize = 400;
 
 /// Whether a text fits a function, and if not, the first of the faults: `NotEmpty`, `TooLong`, `Alphabet`, `EndsInSpace`.
 pub fn fits(function: Function, text: &[u8]) -> Result<(), TextFault>
@@ -46,7 +41,7 @@ fn judge(function: Function, text: &[u8]) -> Result<(), TextFault>
 fn judge_numeric(text: &[u8]) -> Result<(), TextFault>
     ensures { IsJudged Numeric text.now result }
 {
-    if text.len() > NUMERIC_LENGTH {
+    if text.len() > LONGEST_NUMERIC {
         Err(TextFault::TooLong)
     } else if !are_numeric(text) {
         Err(TextFault::Alphabet)
@@ -61,7 +56,7 @@ fn judge_numeric(text: &[u8]) -> Result<(), TextFault>
 fn judge_alpha(text: &[u8]) -> Result<(), TextFault>
     ensures { IsJudged Alpha text.now result }
 {
-    if text.len() > ALPHA_LENGTH {
+    if text.len() > LONGEST_TEXT {
         Err(TextFault::TooLong)
     } else if !are_alpha(text) {
         Err(TextFault::Alphabet)

@@ -7,6 +7,7 @@
 //! - `reader`: the text of groups.
 //! - `lines`: the printed line of a page.
 //! - `coding`: how characters are coded in bits.
+//! - `limits`: how long texts are at most.
 //! - `laws`: a text that fits is read back from its groups.
 #![tactic(auto)]
 
@@ -14,13 +15,15 @@ mod coding;
 pub mod faults;
 pub mod fitting;
 pub mod laws;
+pub mod limits;
 pub mod lines;
 pub mod packing;
 pub mod reader;
 
 pub use faults::TextFault;
 pub use fitting::fits;
-pub use lines::line;
+pub use limits::{LONGEST_NUMERIC, LONGEST_READ, LONGEST_TEXT, MOST_GROUPS};
+pub use lines::{LONGEST_LINE, line};
 pub use packing::{group, word_count};
 pub use reader::TextReader;
 

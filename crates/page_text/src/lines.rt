@@ -5,13 +5,11 @@ ghost use Rattle.arrayvec.specs.ArrayVec.{array_vec_len};
 ghost use Rattle.wires.specs.Written.{Puts};
 ghost use Rattle.page_text.specs.Line.{decimal_digits, escaped_byte, hex_digit as hex_digit_of, line_of};
 
+use crate::limits::LONGEST_READ;
 use arrayvec::ArrayVec;
 use codeword::{Capcode, Function};
 use wires::Failed;
 use wires::sink::Sink;
-
-/// The most bytes of a text that a line is printed of.
-const TEXT: usize = 700;
 
 /// The most bytes that one byte of a text is written by.
 const ESCAPED: usize = 4;
@@ -19,8 +17,8 @@ const ESCAPED: usize = 4;
 /// The digits of a capcode.
 const DIGITS: usize = 7;
 
-/// The most bytes of a line: the digits, a space, the letter, a space, the text, LF.
-const LINE: usize = DIGITS + 3 + ESCAPED * TEXT + 1;
+/// The most bytes of a printed line: the digits, a space, the letter, a space, the text, LF.
+pub const LONGEST_LINE: usize = DIGITS + 3 + ESCAPED * LONGEST_READ + 1;
 
 /// The hexadecimal digits.
 const HEX_DIGITS: [u8; 16] = *b"0123456789ABCDEF";
@@ -34,7 +32,7 @@ pub fn line<K: Sink>(
     text: &[u8],
     sink: &mut K,
 ) -> Result<(), Failed>
-    requires { length text.now ≤ 700 }
+    requires { length text.now ≤ LONGEST_READ }
     ensures { Puts (K.state sink.old) (K.state sink.new) (line_of capcode function text.now) result }
 {
     let line = written(capcode, function, text);
@@ -42,8 +40,8 @@ pub fn line<K: Sink>(
 }
 
 /// The line.
-fn written(capcode: Capcode, function: Function, text: &[u8]) -> ArrayVec<u8, LINE>
-    requires { length text.now ≤ 700 }
+fn written(capcode: Capcode, function: Function, text: &[u8]) -> ArrayVec<u8, LONGEST_LINE>
+    requires { length text.now ≤ LONGEST_READ }
     ensures { result.items ≡ line_of capcode function text.now }
 {
     let mut line = ArrayVec::new();
@@ -57,8 +55,8 @@ fn written(capcode: Capcode, function: Function, text: &[u8]) -> ArrayVec<u8, LI
 }
 
 /// Appends the seven lowest decimal digits of a number.
-fn push_digits(number: u32, line: &mut ArrayVec<u8, LINE>)
-    requires { array_vec_len line.old + DIGITS ≤ LINE }
+fn push_digits(number: u32, line: &mut ArrayVec<u8, LONGEST_LINE>)
+    requires { array_vec_len line.old + DIGITS ≤ LONGEST_LINE }
     ensures { line.new.items ≡ line.old.items ++ decimal_digits 7 number }
 {
     for digit in &digits(number) {
@@ -89,8 +87,8 @@ fn digit(number: u32) -> u8
 }
 
 /// Appends the bytes of a text as they are written.
-fn push_text(text: &[u8], line: &mut ArrayVec<u8, LINE>)
-    requires { array_vec_len line.old + ESCAPED * length text.now ≤ LINE }
+fn push_text(text: &[u8], line: &mut ArrayVec<u8, LONGEST_LINE>)
+    requires { array_vec_len line.old + ESCAPED * length text.now ≤ LONGEST_LINE }
     ensures items { line.new.items ≡ line.old.items ++ flat_map escaped_byte text.now }
     ensures few { array_vec_len line.new ≤ array_vec_len line.old + ESCAPED * length text.now }
 {
@@ -100,8 +98,8 @@ fn push_text(text: &[u8], line: &mut ArrayVec<u8, LINE>)
 }
 
 /// Appends one byte of a text as it is written.
-fn push_escaped(c: u8, line: &mut ArrayVec<u8, LINE>)
-    requires { array_vec_len line.old + ESCAPED ≤ LINE }
+fn push_escaped(c: u8, line: &mut ArrayVec<u8, LONGEST_LINE>)
+    requires { array_vec_len line.old + ESCAPED ≤ LONGEST_LINE }
     ensures items { line.new.items ≡ line.old.items ++ escaped_byte c }
     ensures few { array_vec_len line.new ≤ array_vec_len line.old + ESCAPED }
 {
@@ -119,8 +117,8 @@ fn push_escaped(c: u8, line: &mut ArrayVec<u8, LINE>)
 }
 
 /// Appends a backslash and a character.
-fn push_pair(c: u8, line: &mut ArrayVec<u8, LINE>)
-    requires { array_vec_len line.old + 2 ≤ LINE }
+fn push_pair(c: u8, line: &mut ArrayVec<u8, LONGEST_LINE>)
+    requires { array_vec_len line.old + 2 ≤ LONGEST_LINE }
     ensures items { line.new.items ≡ line.old.items ++ 92 ∷ c ∷ [] }
     ensures len { array_vec_len line.new ≡ array_vec_len line.old + 2 }
 {

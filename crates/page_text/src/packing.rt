@@ -7,6 +7,7 @@ ghost use Rattle.page_text.specs.Fits.{Fits};
 ghost use Rattle.page_text.specs.Groups.{HasGroups, code_bits, group_count, groups, groups_of};
 
 use crate::coding::Coding;
+use crate::limits::{LONGEST_TEXT, MOST_GROUPS};
 use codeword::Function;
 
 /// How many bits of a text a message codeword carries (M.584-2).
@@ -14,9 +15,9 @@ pub(crate) const GROUP_BITS: usize = 20;
 
 /// How many groups a text of this length has: as many message words follow the address word. None for a tone.
 pub fn word_count(function: Function, length: usize) -> usize
-    requires { length ≤ 400 }
+    requires { length ≤ LONGEST_TEXT }
     ensures groups { HasGroups function length result }
-    ensures few { result ≤ 140 }
+    ensures few { result ≤ MOST_GROUPS }
 {
     match function {
         Function::Numeric => count(Coding::Numeric, length),
@@ -42,7 +43,7 @@ pub fn group(function: Function, text: &[u8], k: usize) -> u32
 
 /// How many groups so many characters need.
 fn count(coding: Coding, length: usize) -> usize
-    requires { length ≤ 400 }
+    requires { length ≤ LONGEST_TEXT }
     ensures { result ≡ group_count (width_of coding) length }
 {
     (coding.width() * length).div_ceil(GROUP_BITS)
@@ -50,7 +51,7 @@ fn count(coding: Coding, length: usize) -> usize
 
 /// Group `k` of a text of coded characters.
 fn packed(coding: Coding, text: &[u8], k: usize) -> u32
-    requires short { length text.now ≤ 400 }
+    requires short { length text.now ≤ LONGEST_TEXT }
     requires coded { All (HasCode coding) text.now }
     requires within { k < group_count (width_of coding) (length text.now) }
     ensures value { result ≡ slice_index (groups_of (width_of coding) (fill_of coding) (text_codes coding text.now)) k }

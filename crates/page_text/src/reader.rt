@@ -6,18 +6,16 @@ ghost use Rattle.page_text.specs.Coding.{blank_of, characters_of, width_of};
 ghost use Rattle.page_text.specs.Texts.{codes_of, group_bits, rising_number, stripped, text_of};
 
 use crate::coding::Coding;
+use crate::limits::{LONGEST_READ, MOST_GROUPS};
 use crate::packing::GROUP_BITS;
 use arrayvec::ArrayVec;
 use codeword::Function;
 use std::marker::Model;
 
-/// The most groups of a text: those of 400 alphanumeric characters.
-const GROUPS: usize = 140;
-
 /// The groups of a page that were read so far, from which its text is read back.
 #[derive(Drop)]
 pub struct TextReader {
-    groups: ArrayVec<u32, GROUPS>,
+    groups: ArrayVec<u32, MOST_GROUPS>,
 }
 
 impl Model for TextReader {
@@ -45,13 +43,13 @@ impl TextReader {
         self.groups.clear();
     }
 
-    /// Adds a group of 20 bits. False, and nothing is changed, exactly where 140 are held.
+    /// Adds a group of 20 bits. False, and nothing is changed, exactly where `MOST_GROUPS` are held.
     pub fn push(&mut self, group: u32) -> bool
         requires { group < 2 ^ 20 }
-        ensures full { IsTrue result ↔ (length self.old < 140) }
+        ensures full { IsTrue result ↔ (length self.old < MOST_GROUPS) }
         ensures added { IsTrue result → self.new ≡ self.old ++ group ∷ [] }
         ensures kept { IsFalse result → self.new ≡ self.old }
-        ensures few { length self.new ≤ 140 }
+        ensures few { length self.new ≤ MOST_GROUPS }
     {
         let has_room = !self.groups.is_full();
         if has_room {
@@ -60,14 +58,14 @@ impl TextReader {
         has_room
     }
 
-    /// Writes the text of the groups to the front of `into`, which has at least 700 bytes, and answers its length. Spaces at the
+    /// Writes the text of the groups to the front of `into`, which has at least `LONGEST_READ` bytes, and answers its length. Spaces at the
     /// end of a numeric text and zeros at the end of an alphanumeric one are dropped. A tone has an empty text, whatever the
     /// groups. What stands behind the text in `into` is open.
     pub fn text(&self, function: Function, into: &mut [u8]) -> usize
-        requires { 700 ≤ length into.old }
+        requires { LONGEST_READ ≤ length into.old }
         ensures text { take result into.new ≡ text_of function self.now }
         ensures length { result ≡ length (text_of function self.now) }
-        ensures few { result ≤ 700 }
+        ensures few { result ≤ LONGEST_READ }
     {
         match function {
             Function::Numeric => spell(Coding::Numeric, &self.groups, into),
@@ -79,10 +77,10 @@ impl TextReader {
 
 /// Writes the characters of groups to the front of `into`, and answers how many there are without the blanks at the end.
 fn spell(coding: Coding, groups: &[u32], into: &mut [u8]) -> usize
-    requires few { length groups.now ≤ 140 }
-    requires room { 700 ≤ length into.old }
+    requires few { length groups.now ≤ MOST_GROUPS }
+    requires room { LONGEST_READ ≤ length into.old }
     ensures text { take result into.new ≡ stripped (blank_of coding) (characters_of coding (codes_of (width_of coding) groups.now)) }
-    ensures few { result ≤ 700 }
+    ensures few { result ≤ LONGEST_READ }
 {
     let width = coding.width();
     let count = GROUP_BITS * groups.len() / width;
@@ -107,7 +105,7 @@ fn without_blanks(text: &[u8], blank: u8) -> usize
 /// Code `k` of the groups, counted from 0, of this many bits. Its first bit is its least significant one.
 fn code(groups: &[u32], width: usize, k: usize) -> u8
     requires width { (4 ≤ width) × (width ≤ 7) }
-    requires few { length groups.now ≤ 140 }
+    requires few { length groups.now ≤ MOST_GROUPS }
     requires within { k < 20 * length groups.now / width }
     ensures value { result ≡ slice_index (codes_of width groups.now) k }
     ensures small { result < 2 ^ width }

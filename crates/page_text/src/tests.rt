@@ -11,7 +11,10 @@ use wires::fakes::MemorySink;
 fn carried(function: Function, text: &[u8], k: usize) -> Option<u32>
     ensures { IfSome result (λ group. group < 2 ^ 20) }
 {
-    if text.len() <= 400 && fits(function, text).is_ok() && k < word_count(function, text.len()) {
+    if text.len() <= LONGEST_TEXT
+        && fits(function, text).is_ok()
+        && k < word_count(function, text.len())
+    {
         Some(group(function, text, k))
     } else {
         None
@@ -91,7 +94,7 @@ fn a_length_has_its_count_of_words(rt: HostRuntime) {
         (Function::Alpha, 3, 2),
         (Function::Alpha, 400, 140),
     ] {
-        if length <= 400 {
+        if length <= LONGEST_TEXT {
             assert_eq!(rt; word_count(function, length), count);
         }
     }
@@ -99,19 +102,19 @@ fn a_length_has_its_count_of_words(rt: HostRuntime) {
 
 #[test]
 fn four_hundred_letters_are_read_back_from_140_groups(rt: HostRuntime) {
-    let mut text = [b'A'; 400];
-    for i in 0..400 {
+    let mut text = [b'A'; LONGEST_TEXT];
+    for i in 0..LONGEST_TEXT {
         text[i] = 0x20 + (i % 95) as u8;
     }
     let mut reader = TextReader::new();
-    for k in 0..140 {
+    for k in 0..MOST_GROUPS {
         match carried(Function::Alpha, &text, k) {
             Some(group) => assert!(rt; reader.push(group)),
             None => assert!(rt; false, "no group {k}"),
         }
     }
     assert!(rt; !reader.push(0x20000), "a group more was taken");
-    let mut into = [0xEE; 700];
+    let mut into = [0xEE; LONGEST_READ];
     let length = reader.text(Function::Alpha, &mut into);
     assert_eq!(rt; &into[..length], text.as_slice());
 }
@@ -137,7 +140,7 @@ fn groups_are_read_by_their_function(rt: HostRuntime) {
                 assert!(rt; reader.push(*group));
             }
         }
-        let mut into = [0; 700];
+        let mut into = [0; LONGEST_READ];
         let length = reader.text(function, &mut into);
         assert_eq!(rt; &into[..length], text);
     }
@@ -168,7 +171,7 @@ fn lines_are_printed(rt: HostRuntime) -> Result<(), Fail> {
     for (capcode, function, text, printed) in table {
         let capcode = Capcode::of(capcode).expect(&rt, "a usable capcode");
         let mut sink = MemorySink::new(rt.alloc(), 40, &[])?;
-        if text.len() <= 700 {
+        if text.len() <= LONGEST_READ {
             assert_eq!(rt; line(capcode, function, text, &mut sink), Ok(()));
         }
         assert_eq!(rt; sink.bytes(), printed);
@@ -181,7 +184,7 @@ fn the_longest_line_is_one_piece(rt: HostRuntime) -> Result<(), Fail> {
     let capcode = Capcode::of(8).expect(&rt, "a usable capcode");
     let mut sink = MemorySink::new(rt.alloc(), 2811, &[2])?;
     assert_eq!(rt;
-        line(capcode, Function::Alpha, &[0; 700], &mut sink),
+        line(capcode, Function::Alpha, &[0; LONGEST_READ], &mut sink),
         Ok(())
     );
     assert_eq!(rt; sink.bytes().len(), 2811);

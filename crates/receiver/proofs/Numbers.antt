@@ -1,5 +1,6 @@
 -- The numbers in a set, one after another.
-use Rattle.std.proofs.Common.{◌≡◌, ℕ, zero, suc, ◌+◌, ◌-◌, ◌/◌, ◌^◌, ◌<◌, ◌≤◌, bit_and, Bool, true, false, ◌==◌, cond, List, [], ◌∷◌, Option, Some, None, refl, sym, ◌∙◌, ap, ap₂, eq-eqb, ne_eqb, arith}
+use Rattle.std.proofs.Common.{◌≡◌, ℕ, zero, suc, ◌+◌, ◌-◌, ◌/◌, ◌%◌, ◌^◌, ◌<◌, ◌≤◌, bit_and, Bool, true, false, ◌==◌, cond, List, [], ◌∷◌, Option, Some, None, refl, sym, ◌∙◌, ap, ap₂, eq-eqb, ne_eqb, add-one, arith}
+use Rattle.std.proofs.Math.Nat.{pow-suc, div-div-eq-div-mul}
 use Rattle.std.specs.Prelude.{filter}
 use Rattle.std.specs.Int.{bit_at}
 use Rattle.std.specs.List.{range_with_len, slice_get}
@@ -55,6 +56,25 @@ pub none_left : (set n before : ℕ) (o : Option ℕ) → 64 ≤ n → o ≡ sli
 none_left set n before o l is =
     let e : 64 - n ≡ 0 = omega arith in
     sym (is ∙ ap (λ (m : ℕ). slice_get (numbers_from set (suc n) m) before) e ∙ none_from set (suc n) before)
+
+half_none : (set n : ℕ) → set / 2 ^ n ≡ 0 → set / 2 ^ (n + 1) ≡ 0
+half_none set n h =
+    let z : 0 / 2 ≡ 0 = omega arith in
+    ap (λ (k : ℕ). set / 2 ^ k) (add-one n) ∙ ap (λ (k : ℕ). set / k) (pow-suc 2 n) ∙ sym (div-div-eq-div-mul set (2 ^ n) 2) ∙ ap (λ (k : ℕ). k / 2) h ∙ z
+
+-- no number from n + 1 on is in a set below 2 ^ n
+numbers_above : (m set n : ℕ) → set / 2 ^ n ≡ 0 → numbers_from set (suc n) m ≡ []
+unfolding numbers_from
+numbers_above zero set n h = refl
+numbers_above (suc m) set n h =
+    let z : bit_at set n ≡ 0 = ap (λ (k : ℕ). k % 2) h in
+    let f : suc n + 1 ≡ suc (n + 1) = omega arith in
+    one_more set n m
+    ∙ ap₂ (λ (x : Bool) (start : ℕ). cond x (suc n ∷ numbers_from set start m) (numbers_from set start m)) (ne_eqb (bit_at set n) 1 (λ e. omega (arith, e, z))) f
+    ∙ numbers_above m set (n + 1) (half_none set n h)
+
+pub none_above : (set n before : ℕ) (o : Option ℕ) → set / 2 ^ n ≡ 0 → o ≡ slice_get (numbers_from set (suc n) (64 - n)) before → None ≡ o
+none_above set n before o h is = sym (is ∙ ap (λ (xs : List ℕ). slice_get xs before) (numbers_above (64 - n) set n h))
 
 -- what a map gives for a capcode
 looked_up : (holders entries : List (ℕ × ℕ)) (key capcode : ℕ) (o : Option ℕ) → entries ≡ holders → key ≡ capcode

@@ -5,6 +5,7 @@ use Rattle.codeword.specs.declared.functions.Function.{Function}
 use Rattle.codeword.specs.declared.kinds.WordKind.{WordKind}
 use Rattle.codeword.specs.declared.kinds.WordKind.TheVariants.{Address, Message}
 use Rattle.codeword.specs.Kinds.{kind_of}
+use Rattle.page_text.specs.declared.limits.TheConstants.{MOST_GROUPS}
 use Rattle.codeword.specs.Capcodes.{capcode_at}
 use Rattle.receiver.specs.Heard.{HeardPage, groups_with, groups_to_address, page_if, page_with, pages_from}
 use Rattle.receiver.specs.UnderWay.{messages_with, all_groups, open_if, open_with, first_some, open_from, completed, open_after}
@@ -128,9 +129,9 @@ last_page : (listens : ℕ → Bool) (place : ℕ) (k last : Option WordKind) (g
     → page_with listens place k (ended last (Some gs)) ++ completed None last ≡ (page_with listens place k None ++ []) ++ completed (first_some (open_with listens place k (Some gs)) None) last
 last_page listens place None last gs = refl
 last_page listens place (Some (Message g)) last gs = refl
-last_page listens place (Some (Address a f)) None gs = sym (not_complete (listens (capcode_at place a) && nat_le (length gs) 140) (capcode_at place a) f gs)
-last_page listens place (Some (Address a f)) (Some (Message g)) gs = sym (not_complete_message (listens (capcode_at place a) && nat_le (length gs) 140) (capcode_at place a) f gs g)
-last_page listens place (Some (Address a f)) (Some (Address h e)) gs = complete_address (listens (capcode_at place a) && nat_le (length gs) 140) (capcode_at place a) f gs h e
+last_page listens place (Some (Address a f)) None gs = sym (not_complete (listens (capcode_at place a) && nat_le (length gs) MOST_GROUPS) (capcode_at place a) f gs)
+last_page listens place (Some (Address a f)) (Some (Message g)) gs = sym (not_complete_message (listens (capcode_at place a) && nat_le (length gs) MOST_GROUPS) (capcode_at place a) f gs g)
+last_page listens place (Some (Address a f)) (Some (Address h e)) gs = complete_address (listens (capcode_at place a) && nat_le (length gs) MOST_GROUPS) (capcode_at place a) f gs h e
 
 pages_step : (listens : ℕ → Bool) (place : ℕ) (k last : Option WordKind) (all to : Option (List ℕ)) (pages : List HeardPage) (page : Option HeardPage)
     → ((gs : List ℕ) → all ≡ Some gs → (pages ≡ []) × (page ≡ None) × (to ≡ None))
@@ -161,20 +162,20 @@ pages_from-push listens place (v ∷ ws) w =
     ∙ pages_step listens place (kind_of v) (kind_of w) (all_groups ws) (groups_to_address ws) (pages_from listens (suc place) ws) (open_from listens (suc place) ws)
     (λ gs e. only_messages listens (suc place) ws gs e)
 
-length_one_more : (gs : List ℕ) (g : ℕ) → nat_le (length (gs ++ g ∷ [])) 140 ≡ nat_lt (length gs) 140
+length_one_more : (gs : List ℕ) (g : ℕ) → nat_le (length (gs ++ g ∷ [])) MOST_GROUPS ≡ nat_lt (length gs) MOST_GROUPS
 length_one_more gs g =
     let l = length-append gs (g ∷ []) in
-    elim (Rattle.std.proofs.lemmas.Bool.cases_lt (length gs) 140) [
-      | inl low ↦ le-leb (length (gs ++ g ∷ [])) 140 (omega arith) ∙ sym (lt-ltb (length gs) 140 low)
-      | inr high ↦ lt-leb (length (gs ++ g ∷ [])) 140 (omega arith) ∙ sym (le-ltb (length gs) 140 high)
+    elim (Rattle.std.proofs.lemmas.Bool.cases_lt (length gs) MOST_GROUPS) [
+      | inl low ↦ le-leb (length (gs ++ g ∷ [])) MOST_GROUPS (omega arith) ∙ sym (lt-ltb (length gs) MOST_GROUPS low)
+      | inr high ↦ lt-leb (length (gs ++ g ∷ [])) MOST_GROUPS (omega arith) ∙ sym (le-ltb (length gs) MOST_GROUPS high)
     ]
 
-grow_with : (b l m n : Bool) (listens : ℕ → Bool) (place c : ℕ) (f : Function) (gs : List ℕ) (g : ℕ) → nat_lt (length gs) 140 ≡ n → m ≡ n → (l ≡ false → n ≡ false)
+grow_with : (b l m n : Bool) (listens : ℕ → Bool) (place c : ℕ) (f : Function) (gs : List ℕ) (g : ℕ) → nat_lt (length gs) MOST_GROUPS ≡ n → m ≡ n → (l ≡ false → n ≡ false)
     → first_some (open_if (b && m) c f (gs ++ g ∷ [])) None ≡ open_after listens place (first_some (open_if (b && l) c f gs) None) (Some (Message g))
 grow_with false l m n listens place c f gs g e mn h = refl
 grow_with true false m n listens place c f gs g e mn h = ap (λ (t : Bool). first_some (open_if t c f (gs ++ g ∷ [])) None) (mn ∙ h refl)
 grow_with true true m n listens place c f gs g e mn h =
-    ap (λ (t : Bool). first_some (open_if t c f (gs ++ g ∷ [])) None) (mn ∙ sym e) ∙ first_none (open_if (nat_lt (length gs) 140) c f (gs ++ g ∷ []))
+    ap (λ (t : Bool). first_some (open_if t c f (gs ++ g ∷ [])) None) (mn ∙ sym e) ∙ first_none (open_if (nat_lt (length gs) MOST_GROUPS) c f (gs ++ g ∷ []))
   where
     first_none : (o : Option HeardPage) → first_some o None ≡ o
     first_none None = refl
@@ -187,8 +188,8 @@ open_last listens place at k (Some (Address h e)) gs = ap (λ (x : Option HeardP
 open_last listens place at None (Some (Message g)) gs = refl
 open_last listens place at (Some (Message a)) (Some (Message g)) gs = refl
 open_last listens place at (Some (Address a f)) (Some (Message g)) gs =
-    grow_with (listens (capcode_at place a)) (nat_le (length gs) 140) (nat_le (length (gs ++ g ∷ [])) 140) (nat_lt (length gs) 140) listens at (capcode_at place a) f gs g refl
-    (length_one_more gs g) (λ e. le-ltb (length gs) 140 (let h = leb-false (length gs) 140 e in omega arith))
+    grow_with (listens (capcode_at place a)) (nat_le (length gs) MOST_GROUPS) (nat_le (length (gs ++ g ∷ [])) MOST_GROUPS) (nat_lt (length gs) MOST_GROUPS) listens at (capcode_at place a) f gs g refl
+    (length_one_more gs g) (λ e. le-ltb (length gs) MOST_GROUPS (let h = leb-false (length gs) MOST_GROUPS e in omega arith))
 
 open_step : (listens : ℕ → Bool) (place at : ℕ) (k last : Option WordKind) (all : Option (List ℕ)) (page : Option HeardPage)
     → ((gs : List ℕ) → all ≡ Some gs → page ≡ None)

@@ -5,6 +5,7 @@ use Rattle.codeword.specs.declared.functions.Function.{Function}
 use Rattle.codeword.specs.declared.kinds.WordKind.{WordKind}
 use Rattle.codeword.specs.declared.kinds.WordKind.TheVariants.{Address, Message}
 use Rattle.codeword.specs.Kinds.{kind_of}
+use Rattle.page_text.specs.declared.limits.TheConstants.{MOST_GROUPS}
 use Rattle.page_text.specs.Page.{Page}
 use Rattle.page_text.specs.Texts.{text_of}
 use Rattle.receiver.specs.Stretches.{stretches}
@@ -36,14 +37,14 @@ abbrev pub page_if : Bool → ℕ → Function → List ℕ → List HeardPage
 page_if true capcode function groups = record { capcode = capcode; function = function; groups = groups } ∷ []
 page_if false capcode function groups = []
 
--- the page that begins with a word, where these groups come before an address word: to a capcode that is listened to, with at
--- most 140 groups
+-- the page that begins with a word, where these groups come before an address word: to a capcode that is listened to, with no
+-- more groups than a text has at most
 abbrev pub page_with : (ℕ → Bool) → ℕ → Option WordKind → Option (List ℕ) → List HeardPage
 page_with listens place None groups = []
 page_with listens place (Some (Message group)) groups = []
 page_with listens place (Some (Address high function)) None = []
 page_with listens place (Some (Address high function)) (Some groups) =
-    page_if (listens (capcode_at place high) && nat_le (length groups) 140) (capcode_at place high) function groups
+    page_if (listens (capcode_at place high) && nat_le (length groups) MOST_GROUPS) (capcode_at place high) function groups
 
 -- The pages of the slots from a place on, in order of place: one for each address word of a capcode that is listened to,
 -- in a slot of its frame, which message words and then an address word follow.

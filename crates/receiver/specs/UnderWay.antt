@@ -4,6 +4,7 @@ use Rattle.codeword.specs.declared.functions.Function.{Function}
 use Rattle.codeword.specs.declared.kinds.WordKind.{WordKind}
 use Rattle.codeword.specs.declared.kinds.WordKind.TheVariants.{Address, Message}
 use Rattle.codeword.specs.Kinds.{kind_of}
+use Rattle.page_text.specs.declared.limits.TheConstants.{MOST_GROUPS}
 use Rattle.codeword.specs.Capcodes.{capcode_at}
 use Rattle.receiver.specs.Heard.{HeardPage}
 
@@ -31,7 +32,7 @@ open_with listens place None groups = None
 open_with listens place (Some (Message group)) groups = None
 open_with listens place (Some (Address high function)) None = None
 open_with listens place (Some (Address high function)) (Some groups) =
-    open_if (listens (capcode_at place high) && nat_le (length groups) 140) (capcode_at place high) function groups
+    open_if (listens (capcode_at place high) && nat_le (length groups) MOST_GROUPS) (capcode_at place high) function groups
 
 -- the first of two pages that is there
 abbrev pub first_some : Option HeardPage → Option HeardPage → Option HeardPage
@@ -54,7 +55,7 @@ completed (Some page) (Some (Address high function)) = page ∷ []
 
 -- the page with one group more, where it has room
 abbrev pub with_group : HeardPage → ℕ → Option HeardPage
-with_group page group = open_if (nat_lt (length page.groups) 140) page.capcode page.function (page.groups ++ group ∷ [])
+with_group page group = open_if (nat_lt (length page.groups) MOST_GROUPS) page.capcode page.function (page.groups ++ group ∷ [])
 
 -- the page under way after this word
 abbrev pub open_after : (ℕ → Bool) → ℕ → Option HeardPage → Option WordKind → Option HeardPage

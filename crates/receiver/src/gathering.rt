@@ -11,7 +11,7 @@ ghost use Rattle.receiver.specs.Gathering.{IsFound, page_begun};
 use crate::front::FrontEvent;
 use crate::ready::Ready;
 use codeword::{Capcode, Function, SLOTS, WordKind, kind, number_in_slot};
-use page_text::TextReader;
+use page_text::{LONGEST_READ, TextReader};
 use std::marker::Model;
 use std::sync::ledger::Ledger;
 use wires::steps::Steps;
@@ -55,8 +55,8 @@ impl Gathering {
         }
     }
 
-    /// Takes what a front end met at the last bit. Answers the page that this bit completes, to one of these capcodes. Counts one step for
-    /// the word of a slot.
+    /// Takes what a front end met at the last bit, where the page that an earlier bit completed is forgotten. Answers the page that this bit
+    /// completes. The page that an address word begins is to one of these capcodes. Counts one step for the word of a slot.
     #[inline(always)]
     pub fn meet<C: CapcodeSet, L: Ledger>(
         &mut self,
@@ -64,13 +64,13 @@ impl Gathering {
         capcodes: &C,
         steps: &mut Steps<L>,
     ) -> Option<Ready>
+        requires none_ready { self.old.ready ≡ None }
         requires place { HasFrontPlace event }
         ensures page { self.new.under_way ≡ page_after (is_one_of (C.capcodes capcodes.now)) self.old.under_way event }
         ensures ready { completed_by self.old.under_way event ≡ ready_pages self.new.ready }
         ensures answer { result ≡ ready_answer self.new.ready }
         ensures steps { steps.new ≡ steps.old + slots_by event }
     {
-        self.forget();
         match event {
             FrontEvent::Still => None,
             FrontEvent::Batch => None,
@@ -87,7 +87,7 @@ impl Gathering {
 
     /// Forgets the page that the last bit completed.
     #[inline(always)]
-    fn forget(&mut self)
+    pub fn forget(&mut self)
         ensures ready { self.new.ready ≡ None }
         ensures page { self.new.under_way ≡ self.old.under_way }
     {
@@ -162,10 +162,10 @@ impl Gathering {
     /// Writes the text of the page that the last bit completed to the front of `into`, and answers its length.
     pub fn text(&self, into: &mut [u8]) -> usize
         requires ready { IsSome self.now.ready }
-        requires room { 700 ≤ length into.old }
+        requires room { LONGEST_READ ≤ length into.old }
         ensures text { IfSome self.now.ready (λ page. take result into.new ≡ text_of page.function page.groups) }
         ensures length { IfSome self.now.ready (λ page. result ≡ length (text_of page.function page.groups)) }
-        ensures few { result ≤ 700 }
+        ensures few { result ≤ LONGEST_READ }
     {
         match self.ready {
             Some(page) => self.groups.text(page.function, into),

@@ -15,6 +15,7 @@ use crate::front::Front;
 use crate::gathering::{CapcodeSet, Gathering};
 use crate::ready::Ready;
 use codeword::Capcode;
+use page_text::LONGEST_READ;
 use std::alloc::Global;
 use std::collections::BTreeMap;
 use std::marker::Model;
@@ -137,6 +138,7 @@ impl Group {
         ensures answer { result ≡ ready_answer self.new.ready }
         ensures steps { (bits : List Bool) → StandsFor self.old bits → steps.new + slots_in bits ≡ steps.old + slots_in (bits ++ bit ∷ []) }
     {
+        self.gathering.forget();
         let event = self.front.feed(bit);
         self.gathering.meet(event, &self.holders, steps)
     }
@@ -162,6 +164,7 @@ impl Group {
         ensures steps { (bits : List Bool) → StandsFor self.old bits → steps.new + slots_in bits ≡ steps.old + slots_in (bits ++ taken_of piece.old piece.new) }
     {
         loop {
+            self.gathering.forget();
             let event = self.front.feed_piece(piece);
             if let Some(page) = self.gathering.meet(event, &self.holders, steps) {
                 return Some(page);
@@ -172,14 +175,14 @@ impl Group {
         }
     }
 
-    /// Writes the text of the page that the last `feed` answered to the front of `into`, which has at least 700 bytes, and answers its
+    /// Writes the text of the page that the last `feed` answered to the front of `into`, which has at least `LONGEST_READ` bytes, and answers its
     /// length. What stands behind the text in `into` is open.
     pub fn text(&self, into: &mut [u8]) -> usize
         requires ready { IsSome self.now.ready }
-        requires room { 700 ≤ length into.old }
+        requires room { LONGEST_READ ≤ length into.old }
         ensures text { IfSome self.now.ready (λ page. take result into.new ≡ text_of page.function page.groups) }
         ensures length { IfSome self.now.ready (λ page. result ≡ length (text_of page.function page.groups)) }
-        ensures few { result ≤ 700 }
+        ensures few { result ≤ LONGEST_READ }
     {
         self.gathering.text(into)
     }
@@ -211,6 +214,9 @@ fn number_in(set: u64, k: u32) -> Option<u32>
 {
     let mut before = k;
     for n in 0..MOST_RECEIVERS {
+        if set >> n == 0 {
+            return None;
+        }
         if (set >> n) & 1 == 1 {
             if before == 0 {
                 return Some(n + 1);

@@ -10,6 +10,7 @@ use crate::front::Front;
 use crate::gathering::{CapcodeSet, Gathering};
 use crate::ready::Ready;
 use codeword::Capcode;
+use page_text::LONGEST_READ;
 use std::marker::Model;
 use wires::piece::Piece;
 use wires::steps::{Steps, Work};
@@ -108,6 +109,7 @@ impl Receiver {
             → heard (is_one_of self.old.capcodes) (bits ++ bit ∷ []) ≡ heard (is_one_of self.old.capcodes) bits ++ ready_pages self.new.ready }
         ensures answer { result ≡ ready_answer self.new.ready }
     {
+        self.gathering.forget();
         let event = self.front.feed(bit);
         self.gathering
             .meet(event, &self.capcodes, &mut Steps::<Work>::new())
@@ -130,6 +132,7 @@ impl Receiver {
     {
         let mut steps = Steps::<Work>::new();
         loop {
+            self.gathering.forget();
             let event = self.front.feed_piece(piece);
             if let Some(page) = self.gathering.meet(event, &self.capcodes, &mut steps) {
                 return Some(page);
@@ -140,14 +143,14 @@ impl Receiver {
         }
     }
 
-    /// Writes the text of the page that the last `feed` answered to the front of `into`, which has at least 700 bytes, and answers its
+    /// Writes the text of the page that the last `feed` answered to the front of `into`, which has at least `LONGEST_READ` bytes, and answers its
     /// length. What stands behind the text in `into` is open.
     pub fn text(&self, into: &mut [u8]) -> usize
         requires ready { IsSome self.now.ready }
-        requires room { 700 ≤ length into.old }
+        requires room { LONGEST_READ ≤ length into.old }
         ensures text { IfSome self.now.ready (λ page. take result into.new ≡ text_of page.function page.groups) }
         ensures length { IfSome self.now.ready (λ page. result ≡ length (text_of page.function page.groups)) }
-        ensures few { result ≤ 700 }
+        ensures few { result ≤ LONGEST_READ }
     {
         self.gathering.text(into)
     }

@@ -3,6 +3,7 @@
 use crate::twin::{HeardPage, pages};
 use crate::*;
 use codeword::Capcode;
+use page_text::LONGEST_READ;
 use std::alloc::{AllocError, Global};
 use std::process::Abort;
 use std::test::Fail;
@@ -130,7 +131,7 @@ fn hear_alone(
 ) -> Result<Vec<HeardPage>, AllocError> {
     let mut receiver = Receiver::new(&[capcode]);
     let mut heard = Vec::new(alloc);
-    let mut text = [0; 700];
+    let mut text = [0; LONGEST_READ];
     for (k, bit) in bits.iter().enumerate() {
         if let Some(ready) = receiver.feed(*bit) {
             let length = receiver.text(&mut text);
@@ -162,7 +163,7 @@ fn hear_in_pieces(
 ) -> Result<Vec<HeardPage>, AllocError> {
     let mut receiver = Receiver::new(&[capcode]);
     let mut heard = Vec::new(alloc);
-    let mut text = [0; 700];
+    let mut text = [0; LONGEST_READ];
     let mut at = 0usize;
     for chunk in bits.chunks(size.max(1)) {
         let mut piece = piece_of(chunk);
@@ -194,7 +195,7 @@ fn hear_together(
     let mut group = Group::new(alloc, &pairs)?;
     let mut steps = Steps::<Work>::new();
     let mut heard = Vec::new(alloc);
-    let mut text = [0; 700];
+    let mut text = [0; LONGEST_READ];
     for (k, bit) in bits.iter().enumerate() {
         if let Some(ready) = group.feed(*bit, &mut steps) {
             let length = group.text(&mut text);

@@ -3,7 +3,7 @@
 
 use crate::ready::Ready;
 use codeword::{Capcode, SYNC, WordKind, kind};
-use page_text::TextReader;
+use page_text::{LONGEST_READ, TextReader};
 use std::alloc::{AllocError, Global};
 
 /// A page heard: how many bits there are up to the one that completes it, and its text.
@@ -115,7 +115,7 @@ fn add_pages(
             continue;
         };
         if let Some((reader, left)) = ending(behind) {
-            let mut text = [0; 700];
+            let mut text = [0; LONGEST_READ];
             let length = reader.text(ready.function, &mut text);
             heard.push(HeardPage {
                 end: bits.saturating_sub(left),
@@ -141,7 +141,7 @@ fn beginning(capcodes: &[Capcode], slot: &Slot) -> Option<Ready> {
     Some(Ready { capcode, function })
 }
 
-/// The groups before the address word that ends a page, at most 140, and how many bits are left behind this word.
+/// The groups before the address word that ends a page, at most `MOST_GROUPS`, and how many bits are left behind this word.
 fn ending(slots: &[Slot]) -> Option<(TextReader, usize)> {
     let mut reader = TextReader::new();
     for slot in slots {

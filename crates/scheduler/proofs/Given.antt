@@ -1,10 +1,12 @@
 -- One call for a slot, over plain values.
-use Rattle.std.proofs.Common.{◌≡◌, ◌≢◌, ℕ, ◌+◌, ◌/◌, ◌%◌, ◌^◌, ◌≤◌, ◌<◌, List, [], ◌∷◌, length, map, get_or, Option, Some, None, refl, sym, ◌∙◌, ap, ap₂, subst, arith}
+use Rattle.std.proofs.Common.{◌≡◌, ◌≢◌, ℕ, ◌+◌, ◌/◌, ◌%◌, ◌^◌, ◌≤◌, ◌<◌, List, [], ◌∷◌, ◌++◌, length, take, drop, map, get_or, Option, Some, None, refl, sym, ◌∙◌, ap, ap₂, subst, arith}
 use Rattle.std.specs.Prelude.{slice_index}
 use Rattle.std.specs.Option.{option_map, IsSome}
 use Rattle.std.specs.List.{filter, find}
 use Rattle.std.proofs.lemmas.List.{length-map, get_or-map}
+use Rattle.std.proofs.Math.Seq.{take-append_seam}
 use Rattle.codeword.specs.declared.functions.Function.{Function}
+use Rattle.page_text.specs.declared.limits.TheConstants.{LONGEST_TEXT}
 use Rattle.page_text.specs.Fits.{Fits}
 use Rattle.page_text.specs.Groups.{groups, HasGroups}
 use Rattle.page_text.specs.Page.{Page}
@@ -15,7 +17,7 @@ use Rattle.scheduler.specs.Slots.{PlanPiece, Run, frame, in_frame}
 use Rattle.scheduler.specs.Slots.{Idle as IdlePiece}
 use Rattle.scheduler.specs.Plan.{without_first}
 use Rattle.scheduler.specs.Said.{messages, HasGroup}
-use Rattle.scheduler.specs.Sendings.{first_of, slots_to_come, IsSendingOf, GivesOneSlot, IsBetween, IsFirst, IsInRun, KeepsPool}
+use Rattle.scheduler.specs.Sendings.{first_of, slots_to_come, text_under_way, IsSendingOf, GivesOneSlot, IsBetween, IsFirst, IsInRun, KeepsPool}
 use Rattle.scheduler.specs.declared.slots.Slot.{Slot}
 use Rattle.scheduler.specs.declared.slots.Slot.TheVariants.{Address, Message}
 use Rattle.scheduler.specs.declared.slots.Slot.TheVariants.{Idle as IdleSlot}
@@ -49,17 +51,18 @@ gives-end slot piece s w s' w' f h k g = record {
 }
 
 -- no run is under way behind the idle word and behind a run
-follows-idle : (s : Sending) (w : Pool) → s.place < 16 → s.before ≡ Idle → IsSendingOf s w
-follows-idle s w l e = record { in_batch = l; in_run = λ f k h. absurd (let x = sym e ∙ h in cc) }
+follows-idle : (s : Sending) (w : Pool) → s.place < 16 → s.length ≤ LONGEST_TEXT → s.before ≡ Idle → IsSendingOf s w
+follows-idle s w l m e = record { in_batch = l; short = m; in_run = λ f k h. absurd (let x = sym e ∙ h in cc) }
 
-follows-run_end : (s : Sending) (w : Pool) → s.place < 16 → s.before ≡ RunEnd → IsSendingOf s w
-follows-run_end s w l e = record { in_batch = l; in_run = λ f k h. absurd (let x = sym e ∙ h in cc) }
+follows-run_end : (s : Sending) (w : Pool) → s.place < 16 → s.length ≤ LONGEST_TEXT → s.before ≡ RunEnd → IsSendingOf s w
+follows-run_end s w l m e = record { in_batch = l; short = m; in_run = λ f k h. absurd (let x = sym e ∙ h in cc) }
 
-follows-in_run : (s : Sending) (w : Pool) (f k : ℕ) → s.place < 16 → s.before ≡ InRun f k → IsInRun w f k s.text.items → IsSendingOf s w
-follows-in_run s w f k l e u = record {
+follows-in_run : (s : Sending) (w : Pool) (f k : ℕ) → s.place < 16 → s.length ≤ LONGEST_TEXT → s.before ≡ InRun f k → IsInRun w f k (text_under_way s) → IsSendingOf s w
+follows-in_run s w f k l m e u = record {
   in_batch = l;
+  short = m;
   in_run = λ g j h. (let x = sym e ∙ h in let a : f ≡ g = cc in let b : k ≡ j = cc in
-      subst (λ n. IsInRun w g n s.text.items) b (subst (λ n. IsInRun w n k s.text.items) a u));
+      subst (λ n. IsInRun w g n (text_under_way s)) b (subst (λ n. IsInRun w n k (text_under_way s)) a u));
 }
 
 -- where pages of a frame wait, a ticket is answered
@@ -75,9 +78,9 @@ first-live w f t h = let x = first-is w f t h in (x.entry, x.names)
 -- an idle slot
 pub gives-idle : (s s' : Sending) (w : Pool) (f : ℕ) → IsSendingOf s w → IsBetween s.before → slots_to_come w s.place s.before ≢ []
     → f ≡ s.place / 2 → None ≡ option_map (λ (e : Live). e.ticket) (find (is_live_in f) w.live)
-    → s'.place ≡ (s.place + 1) % 16 → s'.before ≡ Idle → GivesOneSlot IdleSlot s w s' w
-gives-idle s s' w f follows between more at none place is =
-    gives-end IdleSlot IdlePiece s w s' w (follows-idle s' w (omega (arith, place)) is) tt (keeps-same w)
+    → s'.place ≡ (s.place + 1) % 16 → s'.length ≡ s.length → s'.before ≡ Idle → GivesOneSlot IdleSlot s w s' w
+gives-idle s s' w f follows between more at none place kept is =
+    gives-end IdleSlot IdlePiece s w s' w (follows-idle s' w (omega (arith, place)) (omega (arith, kept, follows.short)) is) tt (keeps-same w)
     (subst (Ends IdleSlot IdlePiece w s.place s.before w s'.place) (sym is)
     (idle_ends w s.place s'.place s.before between follows.in_batch more (ap (λ g. filter (in_frame g) (live_pages w)) (sym at) ∙ none-waits w f none) (omega (arith, place))))
 
@@ -111,39 +114,40 @@ module _ (w : Pool) (f t : ℕ) (function : Function) (sound : Sound w) (h : IsF
       ∙ get_or-map Message (groups function text) k 0 (Message group) l ∙ ap Message (sym g)
 
   -- the next message slot, with others behind it
-  pub gives-message : (s s' : Sending) (text : List ℕ) (k group : ℕ) → IsSendingOf s w → s.before ≡ InRun f k → text ≡ s.text.items
+  pub gives-message : (s s' : Sending) (text : List ℕ) (k group : ℕ) → IsSendingOf s w → s.before ≡ InRun f k → text ≡ text_under_way s
       → group < 2 ^ 20 → group ≡ slice_index (groups function text) k → k + 1 < length (groups function text)
-      → s'.place ≡ (s.place + 1) % 16 → s'.before ≡ InRun f (k + 1) → s'.text ≡ s.text → GivesOneSlot (Message group) s w s' w
-  gives-message s s' text k group follows way same small is more place before kept =
+      → s'.place ≡ (s.place + 1) % 16 → s'.before ≡ InRun f (k + 1) → s'.text ≡ s.text → s'.length ≡ s.length
+      → GivesOneSlot (Message group) s w s' w
+  gives-message s s' text k group follows way same small is more place before kept long =
       let u = follows.in_run f k way in
       let e : text ≡ (first_of f w).text = same ∙ u.text_is in
       let n = own_groups text e in
       gives-on (Message group) s w s' w
-      (follows-in_run s' w f (k + 1) (omega (arith, place)) before
-      (record { in_batch = u.in_batch; waits = u.waits; text_is = ap (λ v. v.items) kept ∙ u.text_is; more = omega (arith, n, more) }))
+      (follows-in_run s' w f (k + 1) (omega (arith, place)) (omega (arith, long, follows.short)) before
+      (record { in_batch = u.in_batch; waits = u.waits; text_is = ap₂ take long kept ∙ u.text_is; more = omega (arith, n, more) }))
       small (keeps-same w)
       (subst (GoesOn (Message group) w s.place s.before w s'.place) (sym before)
       (subst (λ b. GoesOn (Message group) w s.place b w s'.place (InRun f (k + 1))) (sym way)
       (message_goes_on w s.place s'.place f k (Message group) u.more (own_group text k group e (omega (arith, more)) is) (omega (arith, place)))))
 
   -- the last message slot
-  pub gives-last : (s s' : Sending) (w' : Pool) (text : List ℕ) (k group : ℕ) → IsSendingOf s w → s.before ≡ InRun f k → text ≡ s.text.items
+  pub gives-last : (s s' : Sending) (w' : Pool) (text : List ℕ) (k group : ℕ) → IsSendingOf s w → s.before ≡ InRun f k → text ≡ text_under_way s
       → group < 2 ^ 20 → group ≡ slice_index (groups function text) k → length (groups function text) ≤ k + 1 → TakesPage w w' t
-      → s'.place ≡ (s.place + 1) % 16 → s'.before ≡ RunEnd → GivesOneSlot (Message group) s w s' w'
-  gives-last s s' w' text k group follows way same small is last takes place before =
+      → s'.place ≡ (s.place + 1) % 16 → s'.length ≡ s.length → s'.before ≡ RunEnd → GivesOneSlot (Message group) s w s' w'
+  gives-last s s' w' text k group follows way same small is last takes place long before =
       let u = follows.in_run f k way in
       let x = first-is w f t h in
       let e : text ≡ (first_of f w).text = same ∙ u.text_is in
       let n = own_groups text e in
       let l = u.more in
-      gives-end (Message group) (Run (first_of f w)) s w s' w' (follows-run_end s' w' (omega (arith, place)) before) small (keeps-taken w w' t takes)
+      gives-end (Message group) (Run (first_of f w)) s w s' w' (follows-run_end s' w' (omega (arith, place)) (omega (arith, long, follows.short)) before) small (keeps-taken w w' t takes)
       (subst (Ends (Message group) (Run (first_of f w)) w s.place s.before w' s'.place) (sym before)
       (subst (λ b. Ends (Message group) (Run (first_of f w)) w s.place b w' s'.place RunEnd) (sym way)
       (message_ends w w' s.place s'.place f k (Message group) (omega (arith, n, l, last)) (own_group text k group e (omega (arith, n, l)) is)
       (ap frame x.is ∙ x.own) (pages-taken w w' f t sound h takes) (omega (arith, place)))))
 
 -- the text of the first page of a frame is short enough
-pub short : (w : Pool) (f t n : ℕ) → Sound w → IsFirst w f t → ((e : Live) → Names w t e → n ≡ length e.page.text) → n ≤ 400
+pub short : (w : Pool) (f t n : ℕ) → Sound w → IsFirst w f t → ((e : Live) → Names w t e → n ≡ length e.page.text) → n ≤ LONGEST_TEXT
 short w f t n sound h e = let x = first-is w f t h in omega (arith, e x.entry x.names, fits-short x.entry.page (sound.pages t x.entry x.names).fits)
 
 module _ (w : Pool) (t capcode : ℕ) (function : Function) (s s' : Sending) (f : ℕ) (follows : IsSendingOf s w) (between : IsBetween s.before)
@@ -162,12 +166,12 @@ module _ (w : Pool) (t capcode : ℕ) (function : Function) (s s' : Sending) (f 
 
   -- the address slot of a page without message slots
   pub gives-tone : (w' : Pool) (n count : ℕ) → ((e : Live) → Names w t e → n ≡ length e.page.text) → HasGroups function n count → count ≡ 0
-      → TakesPage w w' t → s'.before ≡ RunEnd → GivesOneSlot (Address capcode function) s w s' w'
-  gives-tone w' n count e g zero_is takes before =
+      → TakesPage w w' t → s'.length ≡ s.length → s'.before ≡ RunEnd → GivesOneSlot (Address capcode function) s w s' w'
+  gives-tone w' n count e g zero_is takes long before =
       let x = first-is w f t h in
       let page : Page = x.entry.page in
       let first : filter (in_frame (s.place / 2)) (live_pages w) ≡ page ∷ x.more = ap (λ v. filter (in_frame v) (live_pages w)) (sym at) ∙ x.first in
-      gives-end (Address capcode function) (Run page) s w s' w' (follows-run_end s' w' (omega (arith, place)) before) tt (keeps-taken w w' t takes)
+      gives-end (Address capcode function) (Run page) s w s' w' (follows-run_end s' w' (omega (arith, place)) (omega (arith, long, follows.short)) before) tt (keeps-taken w w' t takes)
       (subst (Ends (Address capcode function) (Run page) w s.place s.before w' s'.place) (sym before)
       (subst (λ a. Ends a (Run page) w s.place s.before w' s'.place RunEnd) (address_is x)
       (address_ends w w' s.place s'.place s.before page x.more between follows.in_batch first (x.own ∙ at) (counted x n count e g ∙ zero_is)
@@ -175,18 +179,21 @@ module _ (w : Pool) (t capcode : ℕ) (function : Function) (s s' : Sending) (f 
 
   -- the address slot of a page with message slots
   pub gives-address : (n count : ℕ) → ((e : Live) → Names w t e → n ≡ length e.page.text) → HasGroups function n count → count ≢ 0
-      → ((e : Live) → Names w t e → s'.text.items ≡ e.page.text) → s'.before ≡ InRun f 0 → GivesOneSlot (Address capcode function) s w s' w
-  gives-address n count e g some copied before =
+      → (old : List ℕ) → ((e : Live) → Names w t e → s'.length ≡ length e.page.text)
+      → ((e : Live) → Names w t e → s'.text ≡ e.page.text ++ drop (length e.page.text) old) → s'.before ≡ InRun f 0
+      → GivesOneSlot (Address capcode function) s w s' w
+  gives-address n count e g some old long copied before =
       let x = first-is w f t h in
       let page : Page = x.entry.page in
       let first : filter (in_frame (s.place / 2)) (live_pages w) ≡ page ∷ x.more = ap (λ v. filter (in_frame v) (live_pages w)) (sym at) ∙ x.first in
       let is : first_of (s.place / 2) w ≡ page = ap (λ v. first_of v w) (sym at) ∙ x.is in
       let c = counted x n count e g in
       let m : length (messages (first_of f w)) ≡ length (messages page) = ap (λ q. length (messages q)) x.is in
-      let follows' : IsSendingOf s' w = follows-in_run s' w f 0 (omega (arith, place)) before (record {
+      let follows' : IsSendingOf s' w = follows-in_run s' w f 0 (omega (arith, place)) (short w f t s'.length sound h long) before (record {
         in_batch = omega (arith, at, follows.in_batch);
         waits = λ y. (let z = sym x.first ∙ y in cc);
-        text_is = copied x.entry x.names ∙ ap (λ (p : Page). p.text) (sym x.is);
+        text_is = ap₂ take (long x.entry x.names) (copied x.entry x.names) ∙ take-append_seam x.entry.page.text (drop (length x.entry.page.text) old)
+            ∙ ap (λ (p : Page). p.text) (sym x.is);
         more = omega (arith, c, m, some);
       }) in
       let before' : s'.before ≡ InRun (s.place / 2) 0 = before ∙ ap (λ v. InRun v 0) at in

@@ -3,6 +3,7 @@ use Rattle.std.proofs.Common.{◌≡◌, ◌≢◌, ℕ, ◌+◌, ◌*◌, ◌�
 use Rattle.std.specs.List.{sum_by}
 use Rattle.std.proofs.lemmas.List.{length-map, take-append-drop}
 use Rattle.std.proofs.lemmas.List.Sums.{sum_by-cons}
+use Rattle.page_text.specs.declared.limits.TheConstants.{MOST_GROUPS}
 use Rattle.page_text.specs.Fits.{Fits}
 use Rattle.page_text.specs.Page.{Page}
 use Rattle.page_text.proofs.Back.{length-groups}
@@ -85,15 +86,15 @@ pub few-slots : (accepted : List Page) (slots : List Slot) → accepted ≢ [] �
 few-slots accepted slots some are =
     let few = few_slots accepted (map word_in slots) some (slots_schedule accepted slots are) in omega (arith, few, length-map slots word_in)
 
--- a run has at most 141 slots
-run_short : (page : Page) → Fits page.function page.text → length (run page) ≤ 141
+-- a run has an address slot, and no more message slots than the most groups
+run_short : (page : Page) → Fits page.function page.text → length (run page) ≤ 1 + MOST_GROUPS
 run_short page fits = omega (arith, length-run page, length-messages page, length-groups page.function page.text fits)
 
 -- the runs of all live pages
-pub runs-live : (w : Pool) → Sound w → sum_by (λ page. length (run page)) (live_pages w) ≤ 141 * length w.live
+pub runs-live : (w : Pool) → Sound w → sum_by (λ page. length (run page)) (live_pages w) ≤ (1 + MOST_GROUPS) * length w.live
 runs-live w sound = all [] w.live refl
   where
-    all : (b es : List Live) → w.live ≡ b ++ es → sum_by (λ (page : Page). length (run page)) (map (λ (e : Live). e.page) es) ≤ 141 * length es
+    all : (b es : List Live) → w.live ≡ b ++ es → sum_by (λ (page : Page). length (run page)) (map (λ (e : Live). e.page) es) ≤ (1 + MOST_GROUPS) * length es
     all b [] is = omega arith
     all b (e ∷ es) is =
         let fits : Fits e.page.function e.page.text = (sound.pages e.ticket e (record { before = b; after = es; is = is; ticket = refl })).fits in

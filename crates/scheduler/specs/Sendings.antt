@@ -1,9 +1,10 @@
 -- How far a transmission has come.
-use Rattle.std.specs.Prelude.{◌≡◌, ◌≢◌, ◌⊎◌, ◌+◌, ◌<◌, ℕ, true, false, List, [], ◌∷◌, ◌++◌, length, drop, take, Some}
+use Rattle.std.specs.Prelude.{◌≡◌, ◌≢◌, ◌⊎◌, ◌+◌, ◌<◌, ◌≤◌, ℕ, true, false, List, [], ◌∷◌, ◌++◌, length, drop, take, Some}
 use Rattle.std.specs.List.{filter, find}
 use Rattle.std.specs.Option.{option_map}
 use Rattle.codeword.specs.declared.batches.TheConstants.{SLOTS}
 use Rattle.codeword.specs.declared.functions.Function.TheVariants.{Numeric}
+use Rattle.page_text.specs.declared.limits.TheConstants.{LONGEST_TEXT}
 use Rattle.page_text.specs.Page.{Page}
 use Rattle.page_pool.specs.Pool.{Live, Pool, cells}
 use Rattle.page_pool.specs.Pool.{pages as live_pages, live_in_frame as is_live_in}
@@ -73,10 +74,15 @@ pub record IsInRun (w : Pool) (f k : ℕ) (text : List ℕ) : Type 0 where
 abbrev pub HasRun : Pool → Before → List ℕ → Type 0
 HasRun w last text = (f k : ℕ) → last ≡ InRun f k → IsInRun w f k text
 
+-- the text of the run under way
+abbrev pub text_under_way : Sending → List ℕ
+text_under_way s = take s.length s.text
+
 -- what holds between a transmission and its pool
 pub record IsSendingOf (s : Sending) (w : Pool) : Type 0 where
   pub in_batch : s.place < SLOTS
-  pub in_run : HasRun w s.before s.text.items
+  pub short : s.length ≤ LONGEST_TEXT
+  pub in_run : HasRun w s.before (text_under_way s)
 
 -- What was given of a transmission of the accepted pages, and which of them are held: whole pieces came before the run under way, and
 -- what the pool holds are the accepted pages without those whose runs are whole.

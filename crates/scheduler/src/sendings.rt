@@ -10,15 +10,11 @@ ghost use Rattle.scheduler.specs.Said.{AreSlots, HasGroup, heads_in};
 ghost use Rattle.scheduler.specs.declared.slots.Slot.{Slot as Said};
 
 use crate::slots::Slot;
-use arrayvec::ArrayVec;
 use codeword::{FRAME_SLOTS, SLOTS};
 use page_pool::{Pool, Ticket};
-use page_text::{group, word_count};
+use page_text::{LONGEST_TEXT, group, word_count};
 use std::sync::ledger::Ledger;
 use wires::steps::Steps;
-
-/// The most characters of a text.
-const LONGEST_TEXT: usize = 400;
 
 /// What stood in the slot before the next one.
 #[derive(Clone, Copy)]
@@ -37,8 +33,10 @@ pub struct Sending {
     /// The next slot's place in its batch.
     place: u32,
     before: Before,
-    /// The text of the run under way.
-    text: ArrayVec<u8, LONGEST_TEXT>,
+    /// The text of the run under way, in front.
+    text: [u8; LONGEST_TEXT],
+    /// How many characters it has.
+    length: usize,
 }
 
 impl Sending {
@@ -56,7 +54,8 @@ impl Sending {
         Sending {
             place: 0,
             before: Before::Idle,
-            text: ArrayVec::new(),
+            text: [0; LONGEST_TEXT],
+            length: 0,
         }
     }
 
@@ -101,8 +100,9 @@ impl Sending {
         let t = pool.first(frame).unwrap();
         steps.tick();
         let function = pool.function(t);
-        let words = word_count(function, self.text.len());
-        let group = group(function, self.text.as_slice(), k);
+        let text = &self.text[..self.length];
+        let words = word_count(function, text.len());
+        let group = group(function, text, k);
         if k + 1 < words {
             self.pass(Before::InRun(frame, k + 1));
         } else {
@@ -144,7 +144,7 @@ impl Sending {
         if word_count(function, pool.length(t)) == 0 {
             self.end(pool, t);
         } else {
-            copy_text(pool, t, &mut self.text);
+            self.length = pool.copy_text(t, &mut self.text);
             self.pass(Before::InRun(frame, 0));
         }
         Slot::Address(capcode, function)
@@ -157,6 +157,7 @@ impl Sending {
         ensures takes { TakesPage pool.old pool.new t }
         ensures place { self.new.place ≡ (self.old.place + 1) % SLOTS }
         ensures before { self.new.before ≡ RunEnd }
+        ensures length { self.new.length ≡ self.old.length }
     {
         pool.take(t);
         self.pass(Before::RunEnd);
@@ -168,20 +169,9 @@ impl Sending {
         ensures place { self.new.place ≡ (self.old.place + 1) % SLOTS }
         ensures before { self.new.before ≡ before }
         ensures text { self.new.text ≡ self.old.text }
+        ensures length { self.new.length ≡ self.old.length }
     {
         self.place = (self.place + 1) % SLOTS;
         self.before = before;
-    }
-}
-
-/// Copies the text of a live page.
-fn copy_text(pool: &Pool, t: Ticket, into: &mut ArrayVec<u8, LONGEST_TEXT>)
-    requires sound { Sound pool.now }
-    requires live { IsLive pool.now t }
-    ensures { (e : Live) → Names pool.now t e → into.new.items ≡ e.page.text }
-{
-    into.clear();
-    for i in 0..pool.length(t) {
-        into.push(pool.byte(t, i));
     }
 }

@@ -3,6 +3,7 @@ use Rattle.std.proofs.Common.{◌≡◌, ◌+◌, ◌*◌, ◌/◌, ◌^◌, ◌
 use Rattle.std.proofs.lemmas.List.{length-map, length-replicate}
 use Rattle.std.specs.List.{sum_by}
 use Rattle.bits.proofs.Lengths.{length-words_bits}
+use Rattle.page_text.specs.declared.limits.TheConstants.{MOST_GROUPS}
 use Rattle.page_text.specs.Page.{Page}
 use Rattle.page_pool.specs.Pool.{Live, Pool, Sound, pages}
 use Rattle.scheduler.specs.Slots.{run}
@@ -12,7 +13,7 @@ use Rattle.codeword.specs.Words.{filler}
 use Rattle.air.specs.Air.{IsAir, batches, preamble, transmission}
 use Rattle.air.proofs.Batches.{length-batches}
 
-few : (accepted : List Page) (bits : List Bool) → length accepted ≤ 65536 → sum_by (λ page. length (run page)) accepted ≤ 141 * length accepted → IsAir accepted bits → length bits < 2 ^ 32
+few : (accepted : List Page) (bits : List Bool) → length accepted ≤ 65536 → sum_by (λ page. length (run page)) accepted ≤ (1 + MOST_GROUPS) * length accepted → IsAir accepted bits → length bits < 2 ^ 32
 unfolding preamble
 few [] bits most runs air = omega (arith, ap length air)
 few (page ∷ accepted) bits most runs air =

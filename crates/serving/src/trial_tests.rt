@@ -3,7 +3,7 @@
 use crate::session_tests::{ONE_PAGE, TWO, station};
 use codeword::Capcode;
 use endings::statuses::Status;
-use listening::playing::group_of;
+use receiver::Group;
 use std::test::Fail;
 use wires::byte_bits::ByteBits;
 use wires::fakes::{MemorySink, MemorySource};
@@ -68,7 +68,7 @@ fn a_noise_is_read_as_far_as_the_transmission(rt: HostRuntime) -> Result<(), Fai
     };
     for (input, noise, failing, status, printed, left) in &ROWS {
         let mut station = station(rt.alloc(), TWO)?;
-        let Ok(mut group) = group_of(rt.alloc(), &[capcode]) else {
+        let Ok(mut group) = Group::new(rt.alloc(), &[(1, capcode)]) else {
             return Err(Fail::from("there is no memory"));
         };
         let noise = vec![in rt.alloc(); 0u8; *noise]?;

@@ -115,26 +115,26 @@ fit_station address settings air count old s h room le = record {
   out = record { tells = s.out_tells; steady = s.out_steady; fits = omega (arith, le) };
 }
 
-abbrev trial_by : List ℕ → List ℕ → List Bool → Result Parts SettingsFault → ℕ
-trial_by capcodes input noise (Ok parts) =
+abbrev trial_by : List (List ℕ) → List ℕ → List Bool → Result Parts SettingsFault → ℕ
+trial_by receivers input noise (Ok parts) =
     let some = session_exists parts.password (directory_of parts) parts.cells (characters input) in
-    length (trial_lines (play_lines capcodes) some.0 (noisy_bits (air_of some.0.pages) noise))
-trial_by capcodes input noise (Err fault) = 0
+    length (trial_lines (play_lines receivers) some.0 (noisy_bits (air_of some.0.pages) noise))
+trial_by receivers input noise (Err fault) = 0
 
-abbrev trial_room : List ℕ → Objects → List ℕ → List ℕ → ℕ
-trial_room capcodes old settings noise = trial_by capcodes old.streams.input.left (bytes_bits (old.shelf.file noise)) (settings_of (old.shelf.file settings))
+abbrev trial_room : List (List ℕ) → Objects → List ℕ → List ℕ → ℕ
+trial_room receivers old settings noise = trial_by receivers old.streams.input.left (bytes_bits (old.shelf.file noise)) (settings_of (old.shelf.file settings))
 
-trial_fits : (capcodes input : List ℕ) (noise : List Bool) (parts : Parts) (session : Session) (air : List Bool) → SessionOf parts parts.cells input session → IsAir session.pages air
-    → length (trial_lines (play_lines capcodes) session (noisy_bits air noise)) ≡ trial_by capcodes input noise (Ok parts)
-trial_fits capcodes input noise parts session air h a =
+trial_fits : (receivers : List (List ℕ)) (input : List ℕ) (noise : List Bool) (parts : Parts) (session : Session) (air : List Bool) → SessionOf parts parts.cells input session → IsAir session.pages air
+    → length (trial_lines (play_lines receivers) session (noisy_bits air noise)) ≡ trial_by receivers input noise (Ok parts)
+trial_fits receivers input noise parts session air h a =
     let some = session_exists parts.password (directory_of parts) parts.cells (characters input) in
     let same : session ≡ some.0 = one_session parts.password (directory_of parts) parts.cells (characters input) session some.0 h some.1 in
     let bits : air ≡ air_of some.0.pages = one_air some.0.pages (air_of some.0.pages) air (is_air_of some.0.pages) (subst (λ (z : Session). IsAir z.pages air) same a) in
-    ap₂ (λ (z : Session) (b : List Bool). length (trial_lines (play_lines capcodes) z (noisy_bits b noise))) same bits
+    ap₂ (λ (z : Session) (b : List Bool). length (trial_lines (play_lines receivers) z (noisy_bits b noise))) same bits
 
-fit_trial : (settings noise capcodes : List ℕ) (old : Objects) → AreSteady old → HasFiles (Some (Trial settings noise capcodes)) old → (room : ℕ) → trial_room capcodes old settings noise ≤ room
-    → FitTrial settings noise capcodes (roomy room old).shelf (roomy room old).streams
-fit_trial settings noise capcodes old s h room le = record {
+fit_trial : (settings noise : List ℕ) (receivers : List (List ℕ)) (old : Objects) → AreSteady old → HasFiles (Some (Trial settings noise receivers)) old → (room : ℕ) → trial_room receivers old settings noise ≤ room
+    → FitTrial settings noise receivers (roomy room old).shelf (roomy room old).streams
+fit_trial settings noise receivers old s h room le = record {
   tells = s.shelf_tells;
   steady = s.shelf_steady;
   there = h.0;
@@ -144,8 +144,8 @@ fit_trial settings noise capcodes old s h room le = record {
   out_tells = s.out_tells;
   out_steady = s.out_steady;
   room = λ parts e session air is a.
-      let f = trial_fits capcodes old.streams.input.left (bytes_bits (old.shelf.file noise)) parts session air is a in
-      omega (arith, f, le, ap (trial_by capcodes old.streams.input.left (bytes_bits (old.shelf.file noise))) e);
+      let f = trial_fits receivers old.streams.input.left (bytes_bits (old.shelf.file noise)) parts session air is a in
+      omega (arith, f, le, ap (trial_by receivers old.streams.input.left (bytes_bits (old.shelf.file noise))) e);
 }
 
 abbrev send_room : List ℕ → ℕ
@@ -179,10 +179,10 @@ fit_with_room (Some (One capcode)) old s h = (
     room = λ body text bits is has air. let a = one_fits capcode body text bits has air in omega (arith, a, le);
   },
 )
-fit_with_room (Some (Play air capcodes)) old s h = (length (play_lines capcodes (bits_listened air old.shelf)), λ room le. (record { tells = s.shelf_tells; steady = s.shelf_steady; there = h }, record { tells = s.out_tells; steady = s.out_steady; room = le }))
+fit_with_room (Some (Play air receivers)) old s h = (length (play_lines receivers (bits_listened air old.shelf)), λ room le. (record { tells = s.shelf_tells; steady = s.shelf_steady; there = h }, record { tells = s.out_tells; steady = s.out_steady; room = le }))
 fit_with_room (Some (Show air)) old s h = (length (table_of (bits_listened air old.shelf)), λ room le. (record { tells = s.shelf_tells; steady = s.shelf_steady; there = h }, record { tells = s.out_tells; steady = s.out_steady; room = le }))
 fit_with_room (Some (Station address settings air count)) old s h = (station_room count old settings, λ room le. fit_station address settings air count old s h room le)
-fit_with_room (Some (Trial settings noise capcodes)) old s h = (trial_room capcodes old settings noise, λ room le. fit_trial settings noise capcodes old s h room le)
+fit_with_room (Some (Trial settings noise receivers)) old s h = (trial_room receivers old settings noise, λ room le. fit_trial settings noise receivers old s h room le)
 fit_with_room (Some (Send address pages)) old s h = (send_room (old.wire.connection old.wire.opened).rest, λ room le. fit_send address pages old s h room le)
 
 -- ---- the line about an outcome
@@ -224,18 +224,18 @@ err_few None old new outcome h = omega (arith, ap (λ (z : Outcome). length (lin
 err_few (Some (One capcode)) old new (Ended status) h = let a = status_few status in omega (arith, a)
 err_few (Some (One capcode)) old new (Refused fault) h = elim h [ ]
 err_few (Some (One capcode)) old new (Misread fault) h = elim h [ ]
-err_few (Some (Play air capcodes)) old new (Ended status) h = let a = status_few status in omega (arith, a)
-err_few (Some (Play air capcodes)) old new (Refused fault) h = elim h [ ]
-err_few (Some (Play air capcodes)) old new (Misread fault) h = elim h [ ]
+err_few (Some (Play air receivers)) old new (Ended status) h = let a = status_few status in omega (arith, a)
+err_few (Some (Play air receivers)) old new (Refused fault) h = elim h [ ]
+err_few (Some (Play air receivers)) old new (Misread fault) h = elim h [ ]
 err_few (Some (Show air)) old new (Ended status) h = let a = status_few status in omega (arith, a)
 err_few (Some (Show air)) old new (Refused fault) h = elim h [ ]
 err_few (Some (Show air)) old new (Misread fault) h = elim h [ ]
 err_few (Some (Station address settings air count)) old new (Ended status) h = let a = status_few status in omega (arith, a)
 err_few (Some (Station address settings air count)) old new (Refused fault) h = refusal_few h.row.0.seen fault h.row.0.of_seen
 err_few (Some (Station address settings air count)) old new (Misread fault) h = elim h.row [ ]
-err_few (Some (Trial settings noise capcodes)) old new (Ended status) h = let a = status_few status in omega (arith, a)
-err_few (Some (Trial settings noise capcodes)) old new (Refused fault) h = refusal_few h.row.0.seen fault h.row.0.of_seen
-err_few (Some (Trial settings noise capcodes)) old new (Misread fault) h = elim h.row [ ]
+err_few (Some (Trial settings noise receivers)) old new (Ended status) h = let a = status_few status in omega (arith, a)
+err_few (Some (Trial settings noise receivers)) old new (Refused fault) h = refusal_few h.row.0.seen fault h.row.0.of_seen
+err_few (Some (Trial settings noise receivers)) old new (Misread fault) h = elim h.row [ ]
 err_few (Some (Send address pages)) old new (Ended status) h = let a = status_few status in omega (arith, a)
 err_few (Some (Send address pages)) old new (Refused fault) h = elim h.row [ ]
 err_few (Some (Send address pages)) old new (Misread Pages.Memory) h = elim h.row [ ]
@@ -253,10 +253,10 @@ fit_err_with_room command old tells steady le = record {
 has_files : (command : Option Command) (heard input : List ℕ) (file : List ℕ → List ℕ) → HasFiles command (world heard file input)
 has_files None heard input file = tt
 has_files (Some (One capcode)) heard input file = tt
-has_files (Some (Play air capcodes)) heard input file = refl
+has_files (Some (Play air receivers)) heard input file = refl
 has_files (Some (Show air)) heard input file = refl
 has_files (Some (Station address settings air count)) heard input file = (refl, inl refl)
-has_files (Some (Trial settings noise capcodes)) heard input file = (refl, refl)
+has_files (Some (Trial settings noise receivers)) heard input file = (refl, refl)
 has_files (Some (Send address pages)) heard input file = (refl, omega arith)
 
 steady_world : (heard input : List ℕ) (file : List ℕ → List ℕ) → AreSteady (world heard file input)

@@ -5,7 +5,10 @@ pub mod OneAnswer
 pub mod OnePages
 pub mod ReadTexts
 pub mod Sendings
+pub mod Saying
 pub mod ListedCapcodes
+pub mod ListedReceivers
+pub mod Pairs
 pub mod FilesRead
 pub mod SettingsRead
 pub mod SettingsRuns

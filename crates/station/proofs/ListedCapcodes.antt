@@ -1,78 +1,12 @@
--- Words for capcodes, one after another.
-use Rattle.std.proofs.Common.{◌≡◌, ℕ, zero, suc, ◌+◌, ◌==◌, ◌<◌, ◌≤◌, ◌||◌, Bool, true, false, List, [], ◌∷◌, ◌++◌, length, length-append, take, drop, get_or, refl, inl, inr, sym, ◌∙◌, ap, subst, arith}
-use Rattle.std.proofs.lemmas.Bool.{cases_lt}
-use Rattle.std.proofs.lemmas.List.{length-map, take_all}
-use Rattle.std.specs.Prelude.{String, string_bytes, IsTrue}
+-- The capcodes of a receiver's word, one part after another.
+use Rattle.std.proofs.Common.{◌≡◌, ◌≢◌, ℕ, ◌==◌, ◌<◌, ◌≤◌, ◌||◌, Bool, true, false, List, [], ◌∷◌, ◌++◌, length, length-append, append_assoc, get_or, Option, Some, None, refl, sym, ◌∙◌, ap, subst, arith, ne_eqb}
+use Rattle.std.specs.Prelude.{All, MatchOption}
 use Rattle.std.specs.List.{list_any}
-use Rattle.std.specs.declared.alloc.Global.{Global}
-use Rattle.station.specs.Commands.{AreCapcodeWords, Differ, IsCapcodeWord, Say, texts}
-
--- the words before one, it, and those behind it
-pub texts-cut : (words : List (String Global)) (i : ℕ) (d : String Global) → i < length words
-    → texts words ≡ take i (texts words) ++ string_bytes (get_or words i d) ∷ drop (suc i) (texts words)
-texts-cut [] i d h = absurd (omega (arith, h))
-texts-cut (w ∷ words) zero d h = refl
-texts-cut (w ∷ words) (suc i) d h = ap (λ (ws : List (List ℕ)). string_bytes w ∷ ws) (texts-cut words i d (omega (arith, h)))
-
--- one word more
-pub texts-take : (words : List (String Global)) (i : ℕ) (d : String Global) → i < length words
-    → take (suc i) (texts words) ≡ take i (texts words) ++ string_bytes (get_or words i d) ∷ []
-texts-take [] i d h = absurd (omega (arith, h))
-texts-take (w ∷ words) zero d h = refl
-texts-take (w ∷ words) (suc i) d h = ap (λ (ws : List (List ℕ)). string_bytes w ∷ ws) (texts-take words i d (omega (arith, h)))
-
--- the words of a list behind its first, one by one
-pub texts-at : (words rest : List (String Global)) (first item : String Global) (k : ℕ) → words ≡ first ∷ rest → k < length rest → item ≡ get_or rest k item
-    → (texts words ≡ take (k + 1) (texts words) ++ string_bytes item ∷ drop (k + 2) (texts words))
-    × (take (k + 1 + 1) (texts words) ≡ take (k + 1) (texts words) ++ string_bytes item ∷ [])
-texts-at words rest first item k e lt is =
-    let one : k + 1 ≡ suc k = omega arith in
-    let two : k + 2 ≡ suc (suc k) = omega arith in
-    let more : suc k + 1 ≡ suc (suc k) = omega arith in
-    let size : suc k < length words = omega (arith, ap length e, lt) in
-    let at : get_or words (suc k) item ≡ item = ap (λ (ws : List (String Global)). get_or ws (suc k) item) e ∙ sym is in
-    let cut = texts-cut words (suc k) item size in
-    let grown = texts-take words (suc k) item size in
-    rw (one, two, more) (
-      cut ∙ ap (λ (w : String Global). take (suc k) (texts words) ++ string_bytes w ∷ drop (suc (suc k)) (texts words)) at,
-      grown ∙ ap (λ (w : String Global). take (suc k) (texts words) ++ string_bytes w ∷ []) at,
-    )
-
--- all of them
-pub texts-all : (words rest : List (String Global)) (first : String Global) (k : ℕ) → words ≡ first ∷ rest → length rest ≤ k → take (k + 1) (texts words) ≡ texts words
-texts-all words rest first k e le =
-    take_all (k + 1) (texts words) (omega (arith, ap length e, le, length-map words (λ (w : String Global). string_bytes w)))
-
--- the capcodes of words that begin with others
-pub record Further (capcodes : List ℕ) (word : List ℕ) (all : List ℕ) : Type 0 where
-  pub capcode : ℕ
-  pub rest : List ℕ
-  pub is : all ≡ capcodes ++ capcode ∷ rest
-  pub word_is : IsCapcodeWord word capcode
-
-abbrev pub further_behind : (word : List ℕ) (capcodes all : List ℕ) (c d : ℕ) → d ≡ c → Further capcodes word all → Further (c ∷ capcodes) word (d ∷ all)
-further_behind word capcodes all c d e f = record {
-  capcode = f.capcode;
-  rest = f.rest;
-  is = ap (λ (x : ℕ). x ∷ all) e ∙ ap (λ (xs : List ℕ). c ∷ xs) f.is;
-  word_is = f.word_is;
-}
-
-pub Say-further : (front : List (List ℕ)) (word : List ℕ) (later : List (List ℕ)) (capcodes all : List ℕ) → Say front capcodes → Say (front ++ word ∷ later) all
-    → Further capcodes word all
-Say-further [] word later [] [] h k = elim k [ ]
-Say-further [] word later [] (d ∷ all) h k = record { capcode = d; rest = all; is = refl; word_is = k.0 }
-Say-further [] word later (c ∷ capcodes) all h k = elim h [ ]
-Say-further (w ∷ front) word later [] all h k = elim h [ ]
-Say-further (w ∷ front) word later (c ∷ capcodes) [] h k = elim k [ ]
-Say-further (w ∷ front) word later (c ∷ capcodes) (d ∷ all) h k =
-    further_behind word capcodes all c d (k.0.value ∙ sym h.0.value) (Say-further front word later capcodes all h.1 k.1)
-
-pub Say-more : (front : List (List ℕ)) (word : List ℕ) (capcodes : List ℕ) (c : ℕ) → Say front capcodes → IsCapcodeWord word c → Say (front ++ word ∷ []) (capcodes ++ c ∷ [])
-Say-more [] word [] c h k = (k, tt)
-Say-more [] word (d ∷ capcodes) c h k = elim h [ ]
-Say-more (w ∷ front) word [] c h k = elim h [ ]
-Say-more (w ∷ front) word (d ∷ capcodes) c h k = (h.0, Say-more front word capcodes c h.1 k)
+use Rattle.std.proofs.lemmas.List.Elements.{All-from_get_or}
+use Rattle.std.proofs.lemmas.List.Splits.{slice_split_at, slice_split_none}
+use Rattle.station.specs.Commands.{Differ, IsCapcodeWord, IsReceiverWord, Say, plus_parts}
+use Rattle.station.specs.ReadWords.{GrowsBy, IsNext}
+use Rattle.station.proofs.Saying.{Say-behind, Say-more, Say-one}
 
 -- ---- capcodes that differ
 
@@ -118,33 +52,99 @@ pub Differ-twice : (capcodes rest : List ℕ) (c : ℕ) → list_any (λ d. d ==
 Differ-twice [] rest c k h = cc
 Differ-twice (x ∷ capcodes) rest c k h = twice_or x c capcodes rest (x == c) refl k h.0 (λ m. Differ-twice capcodes rest c m h.1)
 
-pub not_full : (n : ℕ) → n ≤ 64 → (n ≡ 64 → IsTrue false) → n < 64
-not_full n few h = elim (cases_lt n 64) [
-  | inl lt ↦ lt
-  | inr le ↦ absurd (no (h (omega (arith, few, le))))
-]
+-- ---- a word has one value at most
+
+pub one_capcode : (word : List ℕ) (a b : ℕ) → IsCapcodeWord word a → IsCapcodeWord word b → b ≡ a
+one_capcode word a b h k = k.value ∙ sym h.value
+
+pub one_receiver : (word : List ℕ) (a b : List ℕ) → IsReceiverWord word a → IsReceiverWord word b → b ≡ a
+one_receiver word a b h k = Say-one IsCapcodeWord one_capcode (plus_parts word) a b h.say k.say
+
+-- ---- parts
+
+-- bytes that aren't this one
+no_byte : (c : ℕ) (bs : List ℕ) → ((i : ℕ) → i < length bs → get_or bs i 0 ≢ c) → All (λ b. (b == c) ≡ false) bs
+no_byte c bs h = All-from_get_or (λ b. (b == c) ≡ false) bs 0 (λ i lt. ne_eqb (get_or bs i 0) c (h i lt))
+
+pub plus_parts-at : (word part more : List ℕ) → word ≡ part ++ 43 ∷ more → ((i : ℕ) → i < length part → get_or part i 0 ≢ 43) → plus_parts word ≡ part ∷ plus_parts more
+plus_parts-at word part more e h = ap plus_parts e ∙ slice_split_at (λ b. b == 43) part 43 more (no_byte 43 part h) refl
+
+pub plus_parts-last : (word : List ℕ) → ((i : ℕ) → i < length word → get_or word i 0 ≢ 43) → plus_parts word ≡ word ∷ []
+plus_parts-last word h = slice_split_none (λ b. b == 43) word (no_byte 43 word h)
+
+-- The first parts of a word were read, up to this rest, and these are their capcodes.
+pub record PartsRead (word rest capcodes : List ℕ) : Type 0 where
+  pub front : List (List ℕ)
+  pub cut : plus_parts word ≡ front ++ plus_parts rest
+  pub say : Say IsCapcodeWord front capcodes
+  pub some : 0 < length capcodes
+  pub few : length capcodes ≤ 4
+  pub differ : Differ capcodes
+
+pub first_read : (word first more : List ℕ) (c : ℕ) → plus_parts word ≡ first ∷ plus_parts more → IsCapcodeWord first c → PartsRead word more (c ∷ [])
+first_read word first more c e h = record {
+  front = first ∷ [];
+  cut = e;
+  say = (h, tt);
+  some = omega arith;
+  few = omega arith;
+  differ = (refl, tt);
+}
+
+pub next_read : (word rest part more capcodes grown : List ℕ) → PartsRead word rest capcodes → plus_parts rest ≡ part ∷ plus_parts more → GrowsBy capcodes part grown → PartsRead word more grown
+next_read word rest part more capcodes grown h e g = subst (λ (cs : List ℕ). PartsRead word more cs) (sym g.more_is) (record {
+  front = h.front ++ part ∷ [];
+  cut = h.cut ∙ ap (λ ps. h.front ++ ps) e ∙ sym (append_assoc h.front (part ∷ []) (plus_parts more));
+  say = Say-more IsCapcodeWord h.front part capcodes g.capcode h.say g.next.word_is;
+  some = omega (arith, length-append capcodes (g.capcode ∷ []));
+  few = omega (arith, length-append capcodes (g.capcode ∷ []), g.next.few);
+  differ = Differ-more capcodes g.capcode h.differ g.next.new;
+})
+
+-- ---- when a word is refused
+
+pub refuse_next : (word rest part : List ℕ) (later : List (List ℕ)) (capcodes : List ℕ) → PartsRead word rest capcodes → plus_parts rest ≡ part ∷ later
+    → ((c : ℕ) → IsNext capcodes part c → ⊥) → (all : List ℕ) → IsReceiverWord word all → ⊥
+refuse_next word rest part later capcodes h e none all k =
+    let b = Say-behind IsCapcodeWord h.front part later all (subst (λ (ws : List (List ℕ)). Say IsCapcodeWord ws all) (h.cut ∙ ap (λ ps. h.front ++ ps) e) k.say) in
+    let same : b.before ≡ capcodes = Say-one IsCapcodeWord one_capcode h.front capcodes b.before h.say b.before_is in
+    let is : all ≡ capcodes ++ b.value ∷ b.rest = b.all_is ∙ ap (λ cs. cs ++ b.value ∷ b.rest) same in
+    none b.value (record {
+      word_is = b.word_is;
+      few = omega (arith, ap length is, length-append capcodes (b.value ∷ b.rest), k.few);
+      new = not_twice capcodes b.rest b.value (list_any (λ d. d == b.value) capcodes) refl (subst Differ is k.differ);
+    })
   where
-    no : IsTrue false → ⊥
-    no t = cc
+    not_twice : (cs rest : List ℕ) (c : ℕ) (among : Bool) → list_any (λ d. d == c) cs ≡ among → Differ (cs ++ c ∷ rest) → list_any (λ d. d == c) cs ≡ false
+    not_twice cs rest c true m d = absurd (Differ-twice cs rest c m d)
+    not_twice cs rest c false m d = m
 
--- ---- when words are refused
+pub refuse_first : (word first : List ℕ) (later : List (List ℕ)) → plus_parts word ≡ first ∷ later → ((c : ℕ) → IsCapcodeWord first c → ⊥) → (all : List ℕ) → IsReceiverWord word all → ⊥
+refuse_first word first later e none all k =
+    let b = Say-behind IsCapcodeWord [] first later all (subst (λ (ws : List (List ℕ)). Say IsCapcodeWord ws all) e k.say) in
+    none b.value b.word_is
 
-pub refuse_unread : (words front later : List (List ℕ)) (word : List ℕ) (capcodes : List ℕ) → Say front capcodes → words ≡ front ++ word ∷ later
-    → ((c : ℕ) → IsCapcodeWord word c → ⊥) → (all : List ℕ) → AreCapcodeWords words all → ⊥
-refuse_unread words front later word capcodes h e none all k =
-    let f = Say-further front word later capcodes all h (subst (λ (ws : List (List ℕ)). Say ws all) e k.say) in
-    none f.capcode f.word_is
+-- ---- the end of a word
 
-pub refuse_full : (words front later : List (List ℕ)) (word : List ℕ) (capcodes : List ℕ) → Say front capcodes → words ≡ front ++ word ∷ later
-    → length capcodes ≡ 64 → (all : List ℕ) → AreCapcodeWords words all → ⊥
-refuse_full words front later word capcodes h e many all k =
-    let f = Say-further front word later capcodes all h (subst (λ (ws : List (List ℕ)). Say ws all) e k.say) in
-    omega (arith, ap length f.is, length-append capcodes (f.capcode ∷ f.rest), many, k.few)
+is_receiver : (word rest capcodes grown : List ℕ) → PartsRead word rest capcodes → plus_parts rest ≡ rest ∷ [] → GrowsBy capcodes rest grown → IsReceiverWord word grown
+is_receiver word rest capcodes grown h e g = subst (λ (cs : List ℕ). IsReceiverWord word cs) (sym g.more_is) (record {
+  say = subst (λ (ws : List (List ℕ)). Say IsCapcodeWord ws (capcodes ++ g.capcode ∷ [])) (sym (h.cut ∙ ap (λ ps. h.front ++ ps) e))
+      (Say-more IsCapcodeWord h.front rest capcodes g.capcode h.say g.next.word_is);
+  some = omega (arith, length-append capcodes (g.capcode ∷ []));
+  few = omega (arith, length-append capcodes (g.capcode ∷ []), g.next.few);
+  differ = Differ-more capcodes g.capcode h.differ g.next.new;
+})
 
-pub refuse_twice : (words front later : List (List ℕ)) (word : List ℕ) (capcodes : List ℕ) (c : ℕ) → Say front capcodes → words ≡ front ++ word ∷ later
-    → IsCapcodeWord word c → list_any (λ d. d == c) capcodes ≡ true → (all : List ℕ) → AreCapcodeWords words all → ⊥
-refuse_twice words front later word capcodes c h e own among all k =
-    let f = Say-further front word later capcodes all h (subst (λ (ws : List (List ℕ)). Say ws all) e k.say) in
-    let same : f.capcode ≡ c = f.word_is.value ∙ sym own.value in
-    Differ-twice capcodes f.rest c among
-    (subst (λ (x : ℕ). Differ (capcodes ++ x ∷ f.rest)) same (subst Differ f.is k.differ))
+pub word_read : (word rest capcodes : List ℕ) (r : Option (List ℕ)) → PartsRead word rest capcodes → plus_parts rest ≡ rest ∷ []
+    → MatchOption r ((c : ℕ) → IsNext capcodes rest c → ⊥) (λ more. GrowsBy capcodes rest more)
+    → MatchOption r ((all : List ℕ) → IsReceiverWord word all → ⊥) (λ all. IsReceiverWord word all)
+word_read word rest capcodes None h e n = refuse_next word rest rest [] capcodes h e n
+word_read word rest capcodes (Some grown) h e g = is_receiver word rest capcodes grown h e g
+
+pub alone_read : (word : List ℕ) (c : ℕ) → plus_parts word ≡ word ∷ [] → IsCapcodeWord word c → IsReceiverWord word (c ∷ [])
+alone_read word c e h = record {
+  say = subst (λ (ws : List (List ℕ)). Say IsCapcodeWord ws (c ∷ [])) (sym e) (h, tt);
+  some = omega arith;
+  few = omega arith;
+  differ = (refl, tt);
+}

@@ -1,41 +1,38 @@
 -- Words are one command's at most.
 use Rattle.std.proofs.Common.{◌≡◌, ℕ, List, [], ◌∷◌, Option, Some, None, get_or, refl, sym, ◌∙◌, ap, ap₂, arith}
-use Rattle.station.specs.Commands.{AreCommand, AreOne, ArePlay, AreSend, AreShow, AreStation, AreTrial, Command, IsCommand, One, Play, Say, Send, Show, Station, Trial}
+use Rattle.station.specs.Commands.{AreCommand, AreOne, ArePlay, AreSend, AreShow, AreStation, AreTrial, Command, IsCommand, IsReceiverWord, One, Play, Say, Send, Show, Station, Trial}
+use Rattle.station.proofs.ListedCapcodes.{one_receiver}
+use Rattle.station.proofs.Saying.{Say-one}
 
 -- the second letter of a command's name
 letter : Command → ℕ
 letter (One capcode) = 110
-letter (Play air capcodes) = 108
+letter (Play air receivers) = 108
 letter (Show air) = 104
 letter (Station address settings air count) = 116
-letter (Trial settings noise capcodes) = 114
+letter (Trial settings noise receivers) = 114
 letter (Send address pages) = 101
 
 letter_is : (name : List ℕ) (words : List (List ℕ)) (command : Command) → IsCommand (name ∷ words) command → get_or name 1 0 ≡ letter command
 unfolding letter
 letter_is name words (One capcode) h = ap (λ (l : List ℕ). get_or l 1 0) h.0
-letter_is name words (Play air capcodes) h = ap (λ (l : List ℕ). get_or l 1 0) h.0
+letter_is name words (Play air receivers) h = ap (λ (l : List ℕ). get_or l 1 0) h.0
 letter_is name words (Show air) h = ap (λ (l : List ℕ). get_or l 1 0) h.0
 letter_is name words (Station address settings air count) h = ap (λ (l : List ℕ). get_or l 1 0) h.0
-letter_is name words (Trial settings noise capcodes) h = ap (λ (l : List ℕ). get_or l 1 0) h.0
+letter_is name words (Trial settings noise receivers) h = ap (λ (l : List ℕ). get_or l 1 0) h.0
 letter_is name words (Send address pages) h = ap (λ (l : List ℕ). get_or l 1 0) h.0
 
-one_capcodes : (words : List (List ℕ)) (a b : List ℕ) → Say words a → Say words b → b ≡ a
-one_capcodes [] [] [] h k = refl
-one_capcodes [] (c ∷ a) b h k = elim h [ ]
-one_capcodes [] [] (c ∷ b) h k = elim k [ ]
-one_capcodes (word ∷ words) [] b h k = elim h [ ]
-one_capcodes (word ∷ words) (c ∷ a) [] h k = elim k [ ]
-one_capcodes (word ∷ words) (c ∷ a) (d ∷ b) h k = ap₂ (λ (x : ℕ) (l : List ℕ). x ∷ l) (k.0.value ∙ sym h.0.value) (one_capcodes words a b h.1 k.1)
+one_receivers : (words a b : List (List ℕ)) → Say IsReceiverWord words a → Say IsReceiverWord words b → b ≡ a
+one_receivers words a b h k = Say-one IsReceiverWord one_receiver words a b h k
 
 one_one : (words : List (List ℕ)) (a b : ℕ) → AreOne words a → AreOne words b → One b ≡ One a
 one_one [] a b h k = elim h [ ]
 one_one (word ∷ []) a b h k = ap One (k.value ∙ sym h.value)
 one_one (word ∷ other ∷ words) a b h k = elim h [ ]
 
-one_play : (words : List (List ℕ)) (air air2 cs cs2 : List ℕ) → ArePlay words air cs → ArePlay words air2 cs2 → Play air2 cs2 ≡ Play air cs
-one_play [] air air2 cs cs2 h k = elim h [ ]
-one_play (word ∷ words) air air2 cs cs2 h k = ap₂ Play (sym k.0 ∙ h.0) (one_capcodes words cs cs2 h.2.say k.2.say)
+one_play : (words : List (List ℕ)) (air air2 : List ℕ) (rs rs2 : List (List ℕ)) → ArePlay words air rs → ArePlay words air2 rs2 → Play air2 rs2 ≡ Play air rs
+one_play [] air air2 rs rs2 h k = elim h [ ]
+one_play (word ∷ words) air air2 rs rs2 h k = ap₂ Play (sym k.0 ∙ h.0) (one_receivers words rs rs2 h.2.say k.2.say)
 
 one_show : (words : List (List ℕ)) (air air2 : List ℕ) → AreShow words air → AreShow words air2 → Show air2 ≡ Show air
 one_show [] air air2 h k = elim h [ ]
@@ -48,11 +45,11 @@ one_send (w ∷ []) a a2 p p2 h k = elim h [ ]
 one_send (w ∷ v ∷ []) a a2 p p2 h k = ap₂ Send (sym k.0 ∙ h.0) (sym k.1 ∙ h.1)
 one_send (w ∷ v ∷ u ∷ words) a a2 p p2 h k = elim h [ ]
 
-one_trial : (words : List (List ℕ)) (s s2 n n2 cs cs2 : List ℕ) → AreTrial words s n cs → AreTrial words s2 n2 cs2 → Trial s2 n2 cs2 ≡ Trial s n cs
-one_trial [] s s2 n n2 cs cs2 h k = elim h [ ]
-one_trial (w ∷ []) s s2 n n2 cs cs2 h k = elim h [ ]
-one_trial (w ∷ v ∷ words) s s2 n n2 cs cs2 h k =
-    ap₂ (λ (a b : List ℕ). Trial a b cs2) (sym k.0 ∙ h.0) (sym k.1 ∙ h.1) ∙ ap (Trial s n) (one_capcodes words cs cs2 h.4.say k.4.say)
+one_trial : (words : List (List ℕ)) (s s2 n n2 : List ℕ) (rs rs2 : List (List ℕ)) → AreTrial words s n rs → AreTrial words s2 n2 rs2 → Trial s2 n2 rs2 ≡ Trial s n rs
+one_trial [] s s2 n n2 rs rs2 h k = elim h [ ]
+one_trial (w ∷ []) s s2 n n2 rs rs2 h k = elim h [ ]
+one_trial (w ∷ v ∷ words) s s2 n n2 rs rs2 h k =
+    ap₂ (λ (a b : List ℕ). Trial a b rs2) (sym k.0 ∙ h.0) (sym k.1 ∙ h.1) ∙ ap (Trial s n) (one_receivers words rs rs2 h.4.say k.4.say)
 
 one_station : (words : List (List ℕ)) (a a2 s s2 f f2 : List ℕ) (n n2 : ℕ) → AreStation words a s f n → AreStation words a2 s2 f2 n2 → Station a2 s2 f2 n2 ≡ Station a s f n
 one_station [] a a2 s s2 f f2 n n2 h k = elim h [ ]

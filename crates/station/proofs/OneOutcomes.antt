@@ -64,12 +64,12 @@ had_memory printed name old new out0 out Memory some h = absurd (some refl)
 had_memory printed name old new out0 out status some h = h
 
 pub one_play : OnePlay
-one_play capcodes air old new other status another file fit h k some some2 =
-    let a = had_memory (play_lines capcodes) air old.shelf new.shelf old.streams.out new.streams.out status some h.row in
-    let b = had_memory (play_lines capcodes) air old.shelf other.shelf old.streams.out other.streams.out another some2 k.row in
-    let s = same (play_lines capcodes) (bytes_bits (old.shelf.file air)) old.streams.out new.streams.out other.streams.out status another
-    (file_comes_to (play_lines capcodes) air old.shelf new.shelf old.streams.out new.streams.out status file fit a)
-    (file_comes_to (play_lines capcodes) air old.shelf other.shelf old.streams.out other.streams.out another file fit b) in
+one_play receivers air old new other status another file fit h k some some2 =
+    let a = had_memory (play_lines receivers) air old.shelf new.shelf old.streams.out new.streams.out status some h.row in
+    let b = had_memory (play_lines receivers) air old.shelf other.shelf old.streams.out other.streams.out another some2 k.row in
+    let s = same (play_lines receivers) (bytes_bits (old.shelf.file air)) old.streams.out new.streams.out other.streams.out status another
+    (file_comes_to (play_lines receivers) air old.shelf new.shelf old.streams.out new.streams.out status file fit a)
+    (file_comes_to (play_lines receivers) air old.shelf other.shelf old.streams.out other.streams.out another file fit b) in
     (s.0, kept_alike old new other a.files b.files (same_said old.wire new.wire other.wire h.wire k.wire) s.1)
 
 pub one_show : OneShow

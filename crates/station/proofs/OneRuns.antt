@@ -72,12 +72,12 @@ acts_alike None old new other outcome another fit h k some some2 =
     (k.0 ∙ sym h.0, subst (λ (x : Objects). LeftAlike x other) (k.1 ∙ sym h.1) (kept_alike other other other refl refl (λ j. refl) refl))
 acts_alike (Some (One capcode)) old new other outcome another fit h k some some2 =
     came_alike _ _ outcome another (λ s t a b n m. one_one capcode old new other s t fit a b n m) h k some some2
-acts_alike (Some (Play air capcodes)) old new other outcome another fit h k some some2 =
-    came_alike _ _ outcome another (λ s t a b n m. one_play capcodes air old new other s t fit.0 fit.1 a b n m) h k some some2
+acts_alike (Some (Play air receivers)) old new other outcome another fit h k some some2 =
+    came_alike _ _ outcome another (λ s t a b n m. one_play receivers air old new other s t fit.0 fit.1 a b n m) h k some some2
 acts_alike (Some (Show air)) old new other outcome another fit h k some some2 =
     came_alike _ _ outcome another (λ s t a b n m. one_show air old new other s t fit.0 fit.1 a b) h k some some2
 acts_alike (Some (Station address settings air count)) old new other outcome another fit h k some some2 = one_station address settings air count old new other outcome another fit h k some some2
-acts_alike (Some (Trial settings noise capcodes)) old new other outcome another fit h k some some2 = one_trial settings noise capcodes old new other outcome another fit h k some some2
+acts_alike (Some (Trial settings noise receivers)) old new other outcome another fit h k some some2 = one_trial settings noise receivers old new other outcome another fit h k some some2
 acts_alike (Some (Send address pages)) old new other outcome another fit h k some some2 = one_send address pages old new other outcome another fit h k some some2
 
 -- a run that had memory came to something else

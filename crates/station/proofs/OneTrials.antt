@@ -51,14 +51,14 @@ tries_done settings spare printed input0 input noise0 noise out0 out OutFault it
 tries_done settings spare printed input0 input noise0 noise out0 out other it is nt ns ot os room h = elim h [ ]
 
 -- The settings were read, and all lines of the trial were printed.
-pub record IsTried (settings noise capcodes : List ℕ) (shelf new : Files) (streams : Streams) (out : Written ℕ) (outcome : Outcome) : Type 0 where
+pub record IsTried (settings noise : List ℕ) (receivers : List (List ℕ)) (shelf new : Files) (streams : Streams) (out : Written ℕ) (outcome : Outcome) : Type 0 where
   pub parts : Parts
   pub settings_are : settings_of (shelf.file settings) ≡ Ok parts
   pub session : Session
   pub session_is : SessionOf parts parts.cells streams.input.left session
   pub air : List Bool
   pub is_air : IsAir session.pages air
-  pub held : out.held ≡ streams.out.held ++ trial_lines (play_lines capcodes) session (noisy_bits air (bytes_bits (shelf.file noise)))
+  pub held : out.held ≡ streams.out.held ++ trial_lines (play_lines receivers) session (noisy_bits air (bytes_bits (shelf.file noise)))
   pub kept : all_files new ≡ all_files shelf
   pub outcome_is : outcome ≡ Ended Done
 
@@ -70,9 +70,9 @@ pub record IsUntried (settings : List ℕ) (shelf new : Files) (streams : Stream
   pub kept : all_files new ≡ all_files shelf
   pub outcome_is : outcome ≡ Refused fault
 
-is_tried : (settings noise capcodes : List ℕ) (shelf new : Files) (streams : Streams) (input : Left ℕ) (out : Written ℕ) (status : Status) → FitTrial settings noise capcodes shelf streams
-    → TriedBy settings noise capcodes streams.input input shelf new streams.out out status → IsTried settings noise capcodes shelf new streams out (Ended status)
-is_tried settings noise capcodes shelf new streams input out status fit h =
+is_tried : (settings noise : List ℕ) (receivers : List (List ℕ)) (shelf new : Files) (streams : Streams) (input : Left ℕ) (out : Written ℕ) (status : Status) → FitTrial settings noise receivers shelf streams
+    → TriedBy settings noise receivers streams.input input shelf new streams.out out status → IsTried settings noise receivers shelf new streams out (Ended status)
+is_tried settings noise receivers shelf new streams input out status fit h =
     let are = h.read.settings_are fit.tells in
     let b = h.tried.bits_are in
     let kept = h.read.unharmed.kept.files in
@@ -80,9 +80,9 @@ is_tried settings noise capcodes shelf new streams input out status fit h =
     let there : IsTrue (h.shelf.there noise) = still (ap (λ (x : OtherFiles). x.there noise) kept) fit.noise_there in
     let steady : IsTrue (h.tried.bits).steady = still b.steady (and_one h.shelf.steady (h.shelf.there noise) (h.read.unharmed.steady fit.tells fit.steady fit.there) there) in
     let tells : IsTrue (h.tried.bits).tells = still b.tells (still h.read.unharmed.kept.tells fit.tells) in
-    let room : Room h.parts h.parts.cells (play_lines capcodes) streams.input.left (h.tried.bits).left streams.out.room =
-    subst (λ (z : List Bool). Room h.parts h.parts.cells (play_lines capcodes) streams.input.left z streams.out.room) (sym file) (fit.room h.parts are) in
-    let d = tries_done h.parts h.parts.cells (play_lines capcodes) streams.input input h.tried.bits h.tried.rest streams.out out status
+    let room : Room h.parts h.parts.cells (play_lines receivers) streams.input.left (h.tried.bits).left streams.out.room =
+    subst (λ (z : List Bool). Room h.parts h.parts.cells (play_lines receivers) streams.input.left z streams.out.room) (sym file) (fit.room h.parts are) in
+    let d = tries_done h.parts h.parts.cells (play_lines receivers) streams.input input h.tried.bits h.tried.rest streams.out out status
     fit.input_tells fit.input_steady tells steady fit.out_tells fit.out_steady room h.tried.tries in
     let t = d.1.tried in
     record {
@@ -93,46 +93,46 @@ is_tried settings noise capcodes shelf new streams input out status fit h =
       air = t.air;
       is_air = t.is_air;
       held = d.1.wrote.held fit.out_tells
-          ∙ ap (λ (z : List Bool). streams.out.held ++ trial_lines (play_lines capcodes) t.session z) (d.1.of_noise tells ∙ ap (noisy_bits t.air) file);
+          ∙ ap (λ (z : List Bool). streams.out.held ++ trial_lines (play_lines receivers) t.session z) (d.1.of_noise tells ∙ ap (noisy_bits t.air) file);
       kept = h.tried.kept.files ∙ kept;
       outcome_is = ap (λ (x : Status). Ended x) d.0;
     }
 
 -- what a row comes to
-view : (settings noise capcodes : List ℕ) (shelf new : Files) (streams : Streams) (input : Left ℕ) (out : Written ℕ) (outcome : Outcome) → FitTrial settings noise capcodes shelf streams → outcome ≢ Ended Memory
-    → TrialRow settings noise capcodes streams.input input shelf new streams.out out outcome → IsTried settings noise capcodes shelf new streams out outcome ⊎ IsUntried settings shelf new streams out outcome
-view settings noise capcodes shelf new streams input out (Refused fault) fit some h = inr (record { fault = fault; settings_are = h.0.refused fit.tells; out_stays = h.2; kept = h.0.unharmed.kept.files; outcome_is = refl })
-view settings noise capcodes shelf new streams input out (Misread fault) fit some h = elim h [ ]
-view settings noise capcodes shelf new streams input out (Ended Memory) fit some h = absurd (some refl)
-view settings noise capcodes shelf new streams input out (Ended FileFault) fit some (inl h) = absurd (h.0.unsteady fit.tells fit.steady fit.there)
-view settings noise capcodes shelf new streams input out (Ended FileFault) fit some (inr h) = inl (is_tried settings noise capcodes shelf new streams input out FileFault fit h)
-view settings noise capcodes shelf new streams input out (Ended status) fit some h = inl (is_tried settings noise capcodes shelf new streams input out status fit h)
+view : (settings noise : List ℕ) (receivers : List (List ℕ)) (shelf new : Files) (streams : Streams) (input : Left ℕ) (out : Written ℕ) (outcome : Outcome) → FitTrial settings noise receivers shelf streams → outcome ≢ Ended Memory
+    → TrialRow settings noise receivers streams.input input shelf new streams.out out outcome → IsTried settings noise receivers shelf new streams out outcome ⊎ IsUntried settings shelf new streams out outcome
+view settings noise receivers shelf new streams input out (Refused fault) fit some h = inr (record { fault = fault; settings_are = h.0.refused fit.tells; out_stays = h.2; kept = h.0.unharmed.kept.files; outcome_is = refl })
+view settings noise receivers shelf new streams input out (Misread fault) fit some h = elim h [ ]
+view settings noise receivers shelf new streams input out (Ended Memory) fit some h = absurd (some refl)
+view settings noise receivers shelf new streams input out (Ended FileFault) fit some (inl h) = absurd (h.0.unsteady fit.tells fit.steady fit.there)
+view settings noise receivers shelf new streams input out (Ended FileFault) fit some (inr h) = inl (is_tried settings noise receivers shelf new streams input out FileFault fit h)
+view settings noise receivers shelf new streams input out (Ended status) fit some h = inl (is_tried settings noise receivers shelf new streams input out status fit h)
 
 -- two that were tried
-both_tried : (settings noise capcodes : List ℕ) (shelf new other : Files) (streams : Streams) (out out2 : Written ℕ) (outcome another : Outcome) → IsTried settings noise capcodes shelf new streams out outcome
-    → IsTried settings noise capcodes shelf other streams out2 another → (another ≡ outcome) × (out2.held ≡ out.held)
-both_tried settings noise capcodes shelf new other streams out out2 outcome another h k =
+both_tried : (settings noise : List ℕ) (receivers : List (List ℕ)) (shelf new other : Files) (streams : Streams) (out out2 : Written ℕ) (outcome another : Outcome) → IsTried settings noise receivers shelf new streams out outcome
+    → IsTried settings noise receivers shelf other streams out2 another → (another ≡ outcome) × (out2.held ≡ out.held)
+both_tried settings noise receivers shelf new other streams out out2 outcome another h k =
     let same : k.parts ≡ h.parts = one_ok (settings_of (shelf.file settings)) h.parts k.parts h.settings_are k.settings_are in
     let session : k.session ≡ h.session =
     one_session h.parts.password (directory_of h.parts) h.parts.cells (characters streams.input.left) k.session h.session
     (subst (λ (p : Parts). SessionOf p p.cells streams.input.left k.session) same k.session_is) h.session_is in
     let air : k.air ≡ h.air = one_air h.session.pages h.air k.air h.is_air (subst (λ (s : Session). IsAir s.pages k.air) session k.is_air) in (
       k.outcome_is ∙ sym h.outcome_is,
-      k.held ∙ (ap₂ (λ (s : Session) (z : List Bool). streams.out.held ++ trial_lines (play_lines capcodes) s (noisy_bits z (bytes_bits (shelf.file noise)))) session air ∙ sym h.held),
+      k.held ∙ (ap₂ (λ (s : Session) (z : List Bool). streams.out.held ++ trial_lines (play_lines receivers) s (noisy_bits z (bytes_bits (shelf.file noise)))) session air ∙ sym h.held),
     )
 
 pub one_trial : OneTrial
-one_trial settings noise capcodes old new other outcome another fit h k some some2 =
+one_trial settings noise receivers old new other outcome another fit h k some some2 =
     let said = same_said old.wire new.wire other.wire h.wire k.wire in
-    elim (view settings noise capcodes old.shelf new.shelf old.streams new.streams.input new.streams.out outcome fit some h.row) [
-      | inl tried ↦ elim (view settings noise capcodes old.shelf other.shelf old.streams other.streams.input other.streams.out another fit some2 k.row) [
+    elim (view settings noise receivers old.shelf new.shelf old.streams new.streams.input new.streams.out outcome fit some h.row) [
+      | inl tried ↦ elim (view settings noise receivers old.shelf other.shelf old.streams other.streams.input other.streams.out another fit some2 k.row) [
         | inl tried2 ↦ (
-            let b = both_tried settings noise capcodes old.shelf new.shelf other.shelf old.streams new.streams.out other.streams.out outcome another tried tried2 in
+            let b = both_tried settings noise receivers old.shelf new.shelf other.shelf old.streams new.streams.out other.streams.out outcome another tried tried2 in
             (b.0, kept_alike old new other tried.kept tried2.kept said b.1)
             )
         | inr refused2 ↦ ok_and_err (settings_of (old.shelf.file settings)) tried.parts refused2.fault tried.settings_are refused2.settings_are
       ]
-      | inr refused ↦ elim (view settings noise capcodes old.shelf other.shelf old.streams other.streams.input other.streams.out another fit some2 k.row) [
+      | inr refused ↦ elim (view settings noise receivers old.shelf other.shelf old.streams other.streams.input other.streams.out another fit some2 k.row) [
         | inl tried2 ↦ ok_and_err (settings_of (old.shelf.file settings)) tried2.parts refused.fault tried2.settings_are refused.settings_are
         | inr refused2 ↦ (
           refused2.outcome_is ∙ (ap (λ (x : SettingsFault). Refused x) (one_err (settings_of (old.shelf.file settings)) refused.fault refused2.fault refused.settings_are refused2.settings_are) ∙ sym refused.outcome_is),

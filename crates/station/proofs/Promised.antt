@@ -1,8 +1,10 @@
 -- What a run promises of the pages that receivers hear.
-use Rattle.std.proofs.Common.{◌≡◌, ℕ, ◌+◌, ◌≤◌, ◌==◌, Bool, true, false, ◌||◌, ◌&&◌, map, List, [], ◌∷◌, length, take, drop, Option, Some, None, Ok, refl, sym, ◌∙◌, ap, ap₂, subst, append-nil, append_assoc, arith, eqb-true, ◌++◌, inl, inr}
+use Rattle.std.proofs.Common.{◌≡◌, ℕ, ◌+◌, ◌≤◌, ◌==◌, Bool, true, false, ◌||◌, map, List, [], ◌∷◌, length, take, drop, Option, Some, None, Ok, refl, sym, ◌∙◌, ap, ap₂, subst, append-nil, append_assoc, arith, eqb-true, ◌++◌, inl, inr}
 use Rattle.std.proofs.lemmas.List.{length-take, take-append-drop, take-map}
 use Rattle.std.proofs.lemmas.List.Elements.{All-nil, All-cons, All-head, All-tail}
 use Rattle.std.specs.Prelude.{◌⊎◌, IsTrue, All}
+use Rattle.std.specs.List.{concat}
+use Rattle.std.proofs.lemmas.List.Folds.{list_any-append}
 use Rattle.bits.specs.Bits.{bytes_bits, xor}
 use Rattle.codeword.specs.Capcodes.{IsUsable}
 use Rattle.page_text.specs.Page.{Page, IsAcceptable}
@@ -17,23 +19,21 @@ use Rattle.air.specs.Air.{IsAir}
 use Rattle.air.specs.Near.{IsAirs, Near}
 use Rattle.receiver.specs.Heard.{heard, with_text}
 use Rattle.receiver.specs.Listeners.{is_one_of}
-use Rattle.receiver.specs.Receivers.{is_listed, is_paired}
-use Rattle.receiver.specs.Shown.{pages_of_frame}
+use Rattle.receiver.specs.Shown.{has_of, pages_of_frame}
 use Rattle.receiver.proofs.Shown.{shown_by-shown}
-use Rattle.listening.specs.PageLines.{alone_from}
-use Rattle.listening.proofs.GroupsHeard.{listed-alone}
 use Rattle.wires.specs.Files.{Files}
 use Rattle.wires.specs.Left.{Left}
 use Rattle.wires.specs.Line.{Line}
 use Rattle.wires.specs.Stacked.{noisy_bits}
 use Rattle.wires.specs.Written.{Written}
 use Rattle.station.proofs.AcceptablePages.{are_acceptable}
+use Rattle.station.proofs.Pairs.{has-listed}
 use Rattle.near.proofs.NearAir.{near_air}
 use Rattle.serving.proofs.WholeSessions.{turn-wholes}
 use Rattle.station.specs.declared.outcomes.Outcome.{Outcome}
 use Rattle.station.specs.declared.outcomes.Outcome.TheVariants.{Ended, Misread, Refused}
 use Rattle.endings.specs.declared.statuses.Status.TheVariants.{Done, FileFault, OutFault, Usage, WireFault}
-use Rattle.station.specs.Commands.{AreCommand, Command, One, Play, Say, Send, Show, Station, Trial}
+use Rattle.station.specs.Commands.{AreCommand, Command, IsCapcodeWord, IsReceiverWord, One, Play, Say, Send, Show, Station, Trial, plus_parts}
 use Rattle.near.specs.NearAir.{AreUsable}
 use Rattle.station.specs.Promises.{AcceptedWhileFit, AreAccepted, FaultPromise, FilePromise, HearNear, HearsTrial, ServedSend, StationPromise, TrialPromise, accepted_in}
 use Rattle.station.specs.ReadFile.{ReadSettings, Unreadable}
@@ -48,29 +48,31 @@ usable_or : (c x : ℕ) (capcodes : List ℕ) (same : Bool) → (c == x) ≡ sam
 usable_or c x capcodes true e u later h = subst IsUsable (eqb-true c x e) u
 usable_or c x capcodes false e u later h = later (sym (ap (λ (t : Bool). t || is_one_of capcodes x) e) ∙ h)
 
-AreUsable-words : (words : List (List ℕ)) (capcodes : List ℕ) → Say words capcodes → AreUsable (is_one_of capcodes)
+AreUsable-parts : (parts : List (List ℕ)) (capcodes : List ℕ) → Say IsCapcodeWord parts capcodes → AreUsable (is_one_of capcodes)
+AreUsable-parts [] [] h x k = absurd cc
+AreUsable-parts [] (c ∷ capcodes) h x k = elim h [ ]
+AreUsable-parts (w ∷ parts) [] h x k = elim h [ ]
+AreUsable-parts (w ∷ parts) (c ∷ capcodes) h x k = usable_or c x capcodes (c == x) refl h.0.usable (AreUsable-parts parts capcodes h.1 x) k
+
+either : (a b : Bool) (A : Type 0) → (a ≡ true → A) → (b ≡ true → A) → (a || b) ≡ true → A
+either true b A h k e = h refl
+either false b A h k e = k e
+
+AreUsable-words : (words receivers : List (List ℕ)) → Say IsReceiverWord words receivers → AreUsable (is_one_of (concat receivers))
 AreUsable-words [] [] h x k = absurd cc
-AreUsable-words [] (c ∷ capcodes) h x k = elim h [ ]
+AreUsable-words [] (r ∷ receivers) h x k = elim h [ ]
 AreUsable-words (w ∷ words) [] h x k = elim h [ ]
-AreUsable-words (w ∷ words) (c ∷ capcodes) h x k = usable_or c x capcodes (c == x) refl h.0.usable (AreUsable-words words capcodes h.1 x) k
+AreUsable-words (w ∷ words) (r ∷ receivers) h x k =
+    either (is_one_of r x) (is_one_of (concat receivers) x) (IsUsable x) (AreUsable-parts (plus_parts w) r h.0.say x) (AreUsable-words words receivers h.1 x)
+    (sym (list_any-append (λ c. c == x) r (concat receivers)) ∙ k)
 
 -- ---- near transmissions
 
--- a paired capcode is listed
-paired-listed : (pairs : List (ℕ × ℕ)) (number c : ℕ) → is_paired pairs number c ≡ true → is_listed pairs c ≡ true
-paired-listed [] number c h = h
-paired-listed (pair ∷ pairs) number c h = one (pair.0 == number) (pair.1 == c) (paired-listed pairs number c) h
-  where
-    one : (a b : Bool) → (is_paired pairs number c ≡ true → is_listed pairs c ≡ true) → ((a && b) || is_paired pairs number c) ≡ true → (b || is_listed pairs c) ≡ true
-    one a true later e = refl
-    one true false later e = later e
-    one false false later e = later e
-
-HearNear-from : (capcodes : List ℕ) (bits : List Bool) → AreUsable (is_one_of capcodes) → HearNear capcodes bits
-HearNear-from capcodes bits u lists h near number f some most =
-    let has = is_paired (alone_from 1 capcodes) in
-    ap (pages_of_frame f) (shown_by-shown has number (map with_text (heard (is_one_of capcodes) bits)) some most)
-    ∙ near_air (is_one_of capcodes) lists bits u h near (has number) f (λ c held. sym (listed-alone 1 capcodes c) ∙ paired-listed (alone_from 1 capcodes) number c held)
+HearNear-from : (receivers : List (List ℕ)) (bits : List Bool) → AreUsable (is_one_of (concat receivers)) → HearNear receivers bits
+HearNear-from receivers bits u lists h near number f some most =
+    let has = has_of receivers in
+    ap (pages_of_frame f) (shown_by-shown has number (map with_text (heard (is_one_of (concat receivers)) bits)) some most)
+    ∙ near_air (is_one_of (concat receivers)) lists bits u h near (has number) f (λ c held. has-listed receivers number c held)
 
 -- ---- a trial
 
@@ -89,11 +91,11 @@ one_air : (pages : List Page) (air : List Bool) → IsAir pages air → IsAirs (
 unfolding IsAirs
 one_air pages air h = (air, [], h, refl, sym (append-nil air))
 
-hears_trial : (capcodes : List ℕ) (pages : List Page) (air flips noise : List Bool) → AreUsable (is_one_of capcodes) → All IsAcceptable pages → IsAir pages air
-    → noisy_bits air flips ≡ noisy_bits air noise → HearsTrial capcodes pages air flips noise
-hears_trial capcodes pages air flips noise u h a e =
+hears_trial : (receivers : List (List ℕ)) (pages : List Page) (air flips noise : List Bool) → AreUsable (is_one_of (concat receivers)) → All IsAcceptable pages → IsAir pages air
+    → noisy_bits air flips ≡ noisy_bits air noise → HearsTrial receivers pages air flips noise
+hears_trial receivers pages air flips noise u h a e =
     let all = All-cons (All IsAcceptable) pages [] h (All-nil (All IsAcceptable)) in
-    let hears : HearNear capcodes (noisy_bits air flips) = HearNear-from capcodes (noisy_bits air flips) u in
+    let hears : HearNear receivers (noisy_bits air flips) = HearNear-from receivers (noisy_bits air flips) u in
     record {
       bits = e;
       near = hears (pages ∷ []) all;
@@ -107,19 +109,19 @@ file_same : (name : List ℕ) (old now : Files) (bits : Left Bool) (settings : L
 file_same name old now bits settings parts r b t =
     (subst IsTrue (sym (b.tells ∙ r.unharmed.kept.tells)) t, b.left ∙ ap (λ files. bytes_bits (files.file name)) r.unharmed.kept.files)
 
-trial_promise : (settings noise capcodes : List ℕ) (input0 input : Left ℕ) (old new : Files) (out0 out : Written ℕ) (outcome : Outcome)
-    (row : TrialRow settings noise capcodes input0 input old new out0 out outcome) → AreUsable (is_one_of capcodes)
-    → TrialPromise settings noise capcodes input0 input old new out0 out outcome row
-trial_promise settings noise capcodes input0 input old new out0 out (Refused fault) row u = tt
-trial_promise settings noise capcodes input0 input old new out0 out (Misread fault) row u = tt
-trial_promise settings noise capcodes input0 input old new out0 out (Ended Done) row u = λ t.
+trial_promise : (settings noise : List ℕ) (receivers : List (List ℕ)) (input0 input : Left ℕ) (old new : Files) (out0 out : Written ℕ) (outcome : Outcome)
+    (row : TrialRow settings noise receivers input0 input old new out0 out outcome) → AreUsable (is_one_of (concat receivers))
+    → TrialPromise settings noise receivers input0 input old new out0 out outcome row
+trial_promise settings noise receivers input0 input old new out0 out (Refused fault) row u = tt
+trial_promise settings noise receivers input0 input old new out0 out (Misread fault) row u = tt
+trial_promise settings noise receivers input0 input old new out0 out (Ended Done) row u = λ t.
     let b = file_same noise old row.shelf row.tried.bits settings row.parts row.read row.tried.bits_are t in
     let s = row.tried.tries.tried in
-    hears_trial capcodes s.session.pages s.air row.tried.tries.flips (bytes_bits (old.file noise)) u
+    hears_trial receivers s.session.pages s.air row.tried.tries.flips (bytes_bits (old.file noise)) u
     (are_acceptable (old.file settings) row.parts row.parts.cells s.taken s.session (row.read.settings_are t) s.session_is)
     s.is_air (row.tried.tries.of_noise b.0 ∙ ap (noisy_bits s.air) b.1)
-trial_promise settings noise capcodes input0 input old new out0 out (Ended Usage) row u = tt
-trial_promise settings noise capcodes input0 input old new out0 out (Ended status) row u = tt
+trial_promise settings noise receivers input0 input old new out0 out (Ended Usage) row u = tt
+trial_promise settings noise receivers input0 input old new out0 out (Ended status) row u = tt
 
 -- ---- sessions that were served
 
@@ -164,7 +166,7 @@ served_send bytes old now sessions more turn read = record {
         acceptable = all;
         airs = airs_of sessions;
         clean = near-airs (accepted_in sessions) (airs sessions) (airs_of sessions);
-        heard = λ capcodes now u near. HearNear-from capcodes now u (accepted_in sessions) all near;
+        heard = λ receivers now u near. HearNear-from receivers now u (accepted_in sessions) all near;
       };
   whole = λ t st. accepted_while old.wire now sessions more turn t st;
 }
@@ -203,15 +205,15 @@ pub promised : (words : List (List ℕ)) (command : Option Command) (old new : O
     → Promises command old new outcome acts
 promised words None old new outcome acts h = tt
 promised words (Some (One capcode)) old new outcome acts h = tt
-promised [] (Some (Play air capcodes)) old new outcome acts h = elim h [ ]
-promised (name ∷ []) (Some (Play air capcodes)) old new outcome acts h = elim h.1 [ ]
-promised (name ∷ w ∷ words) (Some (Play air capcodes)) old new outcome acts h =
-    HearNear-from capcodes (bytes_bits (old.shelf.file air)) (AreUsable-words words capcodes h.1.2.say)
+promised [] (Some (Play air receivers)) old new outcome acts h = elim h [ ]
+promised (name ∷ []) (Some (Play air receivers)) old new outcome acts h = elim h.1 [ ]
+promised (name ∷ w ∷ words) (Some (Play air receivers)) old new outcome acts h =
+    HearNear-from receivers (bytes_bits (old.shelf.file air)) (AreUsable-words words receivers h.1.2.say)
 promised words (Some (Show air)) old new outcome acts h = tt
 promised words (Some (Send address pages)) old new outcome acts h = tt
 promised words (Some (Station address settings air count)) old new outcome acts h = station_promise address settings air count _ _ outcome acts.row
-promised [] (Some (Trial settings noise capcodes)) old new outcome acts h = elim h [ ]
-promised (name ∷ []) (Some (Trial settings noise capcodes)) old new outcome acts h = elim h.1 [ ]
-promised (name ∷ s ∷ []) (Some (Trial settings noise capcodes)) old new outcome acts h = elim h.1 [ ]
-promised (name ∷ s ∷ f ∷ words) (Some (Trial settings noise capcodes)) old new outcome acts h =
-    trial_promise settings noise capcodes _ _ _ _ _ _ outcome acts.row (AreUsable-words words capcodes h.1.4.say)
+promised [] (Some (Trial settings noise receivers)) old new outcome acts h = elim h [ ]
+promised (name ∷ []) (Some (Trial settings noise receivers)) old new outcome acts h = elim h.1 [ ]
+promised (name ∷ s ∷ []) (Some (Trial settings noise receivers)) old new outcome acts h = elim h.1 [ ]
+promised (name ∷ s ∷ f ∷ words) (Some (Trial settings noise receivers)) old new outcome acts h =
+    trial_promise settings noise receivers _ _ _ _ _ _ outcome acts.row (AreUsable-words words receivers h.1.4.say)

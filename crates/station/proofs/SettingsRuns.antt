@@ -30,14 +30,14 @@ unset_station address settings air count old shelf (Ended status) (inr h) =
     subst (λ (s : Status). StationRow address settings air count old (with_shelf old shelf) (Ended s)) (sym h.0) (h.1, record { wire = refl; out = refl })
 
 -- `trial` without settings
-pub unset_trial : (settings noise capcodes : List ℕ) (input : Left ℕ) (old new : Files) (out : Written ℕ) (outcome : Outcome) → HasNoSettings settings old new outcome
-    → TrialRow settings noise capcodes input input old new out out outcome
-unset_trial settings noise capcodes input old new out (Refused fault) h = (h, refl, refl)
-unset_trial settings noise capcodes input old new out (Misread fault) h = elim h [ ]
-unset_trial settings noise capcodes input old new out (Ended status) (inl h) =
-    subst (λ (s : Status). TrialRow settings noise capcodes input input old new out out (Ended s)) (sym h.0) (inl (h.1, refl, refl))
-unset_trial settings noise capcodes input old new out (Ended status) (inr h) =
-    subst (λ (s : Status). TrialRow settings noise capcodes input input old new out out (Ended s)) (sym h.0) (h.1, refl, refl)
+pub unset_trial : (settings noise : List ℕ) (receivers : List (List ℕ)) (input : Left ℕ) (old new : Files) (out : Written ℕ) (outcome : Outcome) → HasNoSettings settings old new outcome
+    → TrialRow settings noise receivers input input old new out out outcome
+unset_trial settings noise receivers input old new out (Refused fault) h = (h, refl, refl)
+unset_trial settings noise receivers input old new out (Misread fault) h = elim h [ ]
+unset_trial settings noise receivers input old new out (Ended status) (inl h) =
+    subst (λ (s : Status). TrialRow settings noise receivers input input old new out out (Ended s)) (sym h.0) (inl (h.1, refl, refl))
+unset_trial settings noise receivers input old new out (Ended status) (inr h) =
+    subst (λ (s : Status). TrialRow settings noise receivers input input old new out out (Ended s)) (sym h.0) (h.1, refl, refl)
 
 -- connections were served by settings
 served_by : (address settings air : List ℕ) (count : ℕ) (old new : Around) (parts s : Parts) (shelf : Files) (n : ℕ) (status : Status) → s ≡ parts → n ≡ parts.cells
@@ -125,10 +125,10 @@ tries_file parts spare printed m n name same then ready later from at i0 i old n
     }
 
 -- the session of an input was tried by settings
-tried_by : (settings noise capcodes : List ℕ) (i0 i : Left ℕ) (old new : Files) (o0 o : Written ℕ) (parts s : Parts) (shelf : Files) (n : ℕ) (printed : List Bool → List ℕ) (status : Status)
-    → s ≡ parts → n ≡ parts.cells → printed ≡ play_lines capcodes → ReadSettings settings old shelf parts → TriesFile s n printed noise i0 i shelf new o0 o status
-    → TriedBy settings noise capcodes i0 i old new o0 o status
-tried_by settings noise capcodes i0 i old new o0 o parts s shelf n printed status e k p read h = record {
+tried_by : (settings noise : List ℕ) (receivers : List (List ℕ)) (i0 i : Left ℕ) (old new : Files) (o0 o : Written ℕ) (parts s : Parts) (shelf : Files) (n : ℕ) (printed : List Bool → List ℕ) (status : Status)
+    → s ≡ parts → n ≡ parts.cells → printed ≡ play_lines receivers → ReadSettings settings old shelf parts → TriesFile s n printed noise i0 i shelf new o0 o status
+    → TriedBy settings noise receivers i0 i old new o0 o status
+tried_by settings noise receivers i0 i old new o0 o parts s shelf n printed status e k p read h = record {
   parts = parts;
   shelf = shelf;
   read = read;
@@ -137,35 +137,35 @@ tried_by settings noise capcodes i0 i old new o0 o parts s shelf n printed statu
       (subst (λ (q : Parts). TriesFile q n printed noise i0 i shelf new o0 o status) e h));
 }
 
-pub trial_row : (settings noise capcodes : List ℕ) (i0 i : Left ℕ) (old new : Files) (o0 o : Written ℕ) (parts s : Parts) (shelf : Files) (n : ℕ) (printed : List Bool → List ℕ) (status : Status)
-    → s ≡ parts → n ≡ parts.cells → printed ≡ play_lines capcodes → ReadSettings settings old shelf parts → TriesFile s n printed noise i0 i shelf new o0 o status
-    → TrialRow settings noise capcodes i0 i old new o0 o (Ended status)
-trial_row settings noise capcodes i0 i old new o0 o parts s shelf n printed Memory e k p read h = elim h.tries [ ]
-trial_row settings noise capcodes i0 i old new o0 o parts s shelf n printed FileFault e k p read h =
-    inr (tried_by settings noise capcodes i0 i old new o0 o parts s shelf n printed FileFault e k p read h)
-trial_row settings noise capcodes i0 i old new o0 o parts s shelf n printed Usage e k p read h =
-    tried_by settings noise capcodes i0 i old new o0 o parts s shelf n printed Usage e k p read h
-trial_row settings noise capcodes i0 i old new o0 o parts s shelf n printed Settings e k p read h =
-    tried_by settings noise capcodes i0 i old new o0 o parts s shelf n printed Settings e k p read h
-trial_row settings noise capcodes i0 i old new o0 o parts s shelf n printed WireFault e k p read h =
-    tried_by settings noise capcodes i0 i old new o0 o parts s shelf n printed WireFault e k p read h
-trial_row settings noise capcodes i0 i old new o0 o parts s shelf n printed OutFault e k p read h =
-    tried_by settings noise capcodes i0 i old new o0 o parts s shelf n printed OutFault e k p read h
-trial_row settings noise capcodes i0 i old new o0 o parts s shelf n printed InputFault e k p read h =
-    tried_by settings noise capcodes i0 i old new o0 o parts s shelf n printed InputFault e k p read h
-trial_row settings noise capcodes i0 i old new o0 o parts s shelf n printed NotBlock e k p read h =
-    tried_by settings noise capcodes i0 i old new o0 o parts s shelf n printed NotBlock e k p read h
-trial_row settings noise capcodes i0 i old new o0 o parts s shelf n printed BadSum e k p read h =
-    tried_by settings noise capcodes i0 i old new o0 o parts s shelf n printed BadSum e k p read h
-trial_row settings noise capcodes i0 i old new o0 o parts s shelf n printed BadText e k p read h =
-    tried_by settings noise capcodes i0 i old new o0 o parts s shelf n printed BadText e k p read h
-trial_row settings noise capcodes i0 i old new o0 o parts s shelf n printed TooLong e k p read h =
-    tried_by settings noise capcodes i0 i old new o0 o parts s shelf n printed TooLong e k p read h
-trial_row settings noise capcodes i0 i old new o0 o parts s shelf n printed LogonRefused e k p read h =
-    tried_by settings noise capcodes i0 i old new o0 o parts s shelf n printed LogonRefused e k p read h
-trial_row settings noise capcodes i0 i old new o0 o parts s shelf n printed SomeUnsent e k p read h =
-    tried_by settings noise capcodes i0 i old new o0 o parts s shelf n printed SomeUnsent e k p read h
-trial_row settings noise capcodes i0 i old new o0 o parts s shelf n printed BadPages e k p read h =
-    tried_by settings noise capcodes i0 i old new o0 o parts s shelf n printed BadPages e k p read h
-trial_row settings noise capcodes i0 i old new o0 o parts s shelf n printed Done e k p read h =
-    tried_by settings noise capcodes i0 i old new o0 o parts s shelf n printed Done e k p read h
+pub trial_row : (settings noise : List ℕ) (receivers : List (List ℕ)) (i0 i : Left ℕ) (old new : Files) (o0 o : Written ℕ) (parts s : Parts) (shelf : Files) (n : ℕ) (printed : List Bool → List ℕ) (status : Status)
+    → s ≡ parts → n ≡ parts.cells → printed ≡ play_lines receivers → ReadSettings settings old shelf parts → TriesFile s n printed noise i0 i shelf new o0 o status
+    → TrialRow settings noise receivers i0 i old new o0 o (Ended status)
+trial_row settings noise receivers i0 i old new o0 o parts s shelf n printed Memory e k p read h = elim h.tries [ ]
+trial_row settings noise receivers i0 i old new o0 o parts s shelf n printed FileFault e k p read h =
+    inr (tried_by settings noise receivers i0 i old new o0 o parts s shelf n printed FileFault e k p read h)
+trial_row settings noise receivers i0 i old new o0 o parts s shelf n printed Usage e k p read h =
+    tried_by settings noise receivers i0 i old new o0 o parts s shelf n printed Usage e k p read h
+trial_row settings noise receivers i0 i old new o0 o parts s shelf n printed Settings e k p read h =
+    tried_by settings noise receivers i0 i old new o0 o parts s shelf n printed Settings e k p read h
+trial_row settings noise receivers i0 i old new o0 o parts s shelf n printed WireFault e k p read h =
+    tried_by settings noise receivers i0 i old new o0 o parts s shelf n printed WireFault e k p read h
+trial_row settings noise receivers i0 i old new o0 o parts s shelf n printed OutFault e k p read h =
+    tried_by settings noise receivers i0 i old new o0 o parts s shelf n printed OutFault e k p read h
+trial_row settings noise receivers i0 i old new o0 o parts s shelf n printed InputFault e k p read h =
+    tried_by settings noise receivers i0 i old new o0 o parts s shelf n printed InputFault e k p read h
+trial_row settings noise receivers i0 i old new o0 o parts s shelf n printed NotBlock e k p read h =
+    tried_by settings noise receivers i0 i old new o0 o parts s shelf n printed NotBlock e k p read h
+trial_row settings noise receivers i0 i old new o0 o parts s shelf n printed BadSum e k p read h =
+    tried_by settings noise receivers i0 i old new o0 o parts s shelf n printed BadSum e k p read h
+trial_row settings noise receivers i0 i old new o0 o parts s shelf n printed BadText e k p read h =
+    tried_by settings noise receivers i0 i old new o0 o parts s shelf n printed BadText e k p read h
+trial_row settings noise receivers i0 i old new o0 o parts s shelf n printed TooLong e k p read h =
+    tried_by settings noise receivers i0 i old new o0 o parts s shelf n printed TooLong e k p read h
+trial_row settings noise receivers i0 i old new o0 o parts s shelf n printed LogonRefused e k p read h =
+    tried_by settings noise receivers i0 i old new o0 o parts s shelf n printed LogonRefused e k p read h
+trial_row settings noise receivers i0 i old new o0 o parts s shelf n printed SomeUnsent e k p read h =
+    tried_by settings noise receivers i0 i old new o0 o parts s shelf n printed SomeUnsent e k p read h
+trial_row settings noise receivers i0 i old new o0 o parts s shelf n printed BadPages e k p read h =
+    tried_by settings noise receivers i0 i old new o0 o parts s shelf n printed BadPages e k p read h
+trial_row settings noise receivers i0 i old new o0 o parts s shelf n printed Done e k p read h =
+    tried_by settings noise receivers i0 i old new o0 o parts s shelf n printed Done e k p read h

@@ -63,10 +63,10 @@ came row (Misread fault) x y f h = elim h [ ]
 count-acts : (command : Option Command) (old new : Objects) (outcome : Outcome) → Acts command old new outcome → new.wire.count ≡ old.wire.count
 count-acts None old new outcome h = ap (λ objects. objects.wire.count) h.1
 count-acts (Some (One capcode)) old new outcome h = came _ outcome new.wire.count old.wire.count (λ status r. ap (λ wire. wire.count) r.wire) h
-count-acts (Some (Play air capcodes)) old new outcome h = came _ outcome new.wire.count old.wire.count (λ status r. ap (λ wire. wire.count) r.wire) h
+count-acts (Some (Play air receivers)) old new outcome h = came _ outcome new.wire.count old.wire.count (λ status r. ap (λ wire. wire.count) r.wire) h
 count-acts (Some (Show air)) old new outcome h = came _ outcome new.wire.count old.wire.count (λ status r. ap (λ wire. wire.count) r.wire) h
 count-acts (Some (Station address settings air count)) old new outcome h = count-station address settings air count _ _ outcome h.row
-count-acts (Some (Trial settings noise capcodes)) old new outcome h = ap (λ wire. wire.count) h.wire
+count-acts (Some (Trial settings noise receivers)) old new outcome h = ap (λ wire. wire.count) h.wire
 count-acts (Some (Send address pages)) old new outcome h = count-send address pages _ _ outcome h.row
 
 pub count-runs : (words : List (List ℕ)) (old new : Outside) (result : Status) → Runs words old new result → new.objects.wire.count ≡ old.objects.wire.count

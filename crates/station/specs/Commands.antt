@@ -1,6 +1,6 @@
 -- The command lines.
 use Rattle.std.specs.Prelude.{◌≡◌, ◌≢◌, ℕ, ◌≤◌, ◌<◌, ◌==◌, false, List, [], ◌∷◌, length, map, Option, Some, None, String, string_bytes, codes}
-use Rattle.std.specs.List.{list_any}
+use Rattle.std.specs.List.{list_any, slice_split}
 use Rattle.std.specs.Str.Parse.{IsNumeral, digits_value}
 use Rattle.std.specs.declared.alloc.Global.{Global}
 use Rattle.codeword.specs.Capcodes.{IsUsable}
@@ -9,14 +9,15 @@ use Rattle.codeword.specs.Capcodes.{IsUsable}
 pub data Command : Type 0 where
   -- one CAPCODE: sends the page of one block to this capcode
   One : ℕ → Command
-  -- play AIR CAPCODE ..: prints the pages that receivers of these capcodes hear in the bits of this file
-  Play : List ℕ → List ℕ → Command
+  -- play AIR RECEIVER ..: prints the pages that receivers, each of these capcodes, hear in the bits of this file
+  Play : List ℕ → List (List ℕ) → Command
   -- show AIR: prints the sync words and slots that are heard in the bits of this file
   Show : List ℕ → Command
   -- station ADDRESS SETTINGS AIR N: serves so many connections at this address, by these settings, and keeps the air in this file
   Station : List ℕ → List ℕ → List ℕ → ℕ → Command
-  -- trial SETTINGS NOISE CAPCODE ..: prints the answers to the session of the input, and the pages that are heard through this noise
-  Trial : List ℕ → List ℕ → List ℕ → Command
+  -- trial SETTINGS NOISE RECEIVER ..: prints the answers to the session of the input, and the pages that receivers, each of these capcodes,
+  -- hear through this noise
+  Trial : List ℕ → List ℕ → List (List ℕ) → Command
   -- send ADDRESS PAGES: sends the pages of this file as a client, to the terminal at this address
   Send : List ℕ → List ℕ → Command
 
@@ -27,23 +28,34 @@ pub record IsCapcodeWord (word : List ℕ) (capcode : ℕ) : Type 0 where
   pub value : capcode ≡ digits_value 10 word
   pub usable : IsUsable capcode
 
--- each word is that of the capcode in its place
-abbrev pub Say : List (List ℕ) → List ℕ → Type 0
-Say [] [] = Unit {0}
-Say (word ∷ words) (capcode ∷ capcodes) = IsCapcodeWord word capcode × Say words capcodes
-Say words capcodes = ⊥
+-- each word says the value in its place
+abbrev pub Say : {A : Type 0} → (List ℕ → A → Type 0) → List (List ℕ) → List A → Type 0
+Say Says [] [] = Unit {0}
+Say Says (word ∷ words) (value ∷ values) = Says word value × Say Says words values
+Say Says words values = ⊥
 
 -- no capcode stands twice
 abbrev pub Differ : List ℕ → Type 0
 Differ [] = Unit {0}
 Differ (capcode ∷ capcodes) = (list_any (λ c. c == capcode) capcodes ≡ false) × Differ capcodes
 
--- one to 64 words for different usable capcodes
-pub record AreCapcodeWords (words : List (List ℕ)) (capcodes : List ℕ) : Type 0 where
-  pub say : Say words capcodes
+-- the parts of a word, which stand between its plus signs
+abbrev pub plus_parts : List ℕ → List (List ℕ)
+plus_parts word = slice_split (λ byte. byte == 43) word
+
+-- One to four different usable capcodes, each in one to seven decimal digits, with a plus sign between two. They are those of one
+-- receiver.
+pub record IsReceiverWord (word : List ℕ) (capcodes : List ℕ) : Type 0 where
+  pub say : Say IsCapcodeWord (plus_parts word) capcodes
   pub some : 0 < length capcodes
-  pub few : length capcodes ≤ 64
+  pub few : length capcodes ≤ 4
   pub differ : Differ capcodes
+
+-- One to 64 words, each for a receiver. Two receivers may have the same capcodes.
+pub record AreReceiverWords (words : List (List ℕ)) (receivers : List (List ℕ)) : Type 0 where
+  pub say : Say IsReceiverWord words receivers
+  pub some : 0 < length receivers
+  pub few : length receivers ≤ 64
 
 -- a number from 1 to 1,000 in decimal digits, with zeros in front or not
 pub record IsCountWord (word : List ℕ) (count : ℕ) : Type 0 where
@@ -57,9 +69,9 @@ abbrev pub IsName : List ℕ → Type 0
 IsName word = word ≢ []
 
 -- what follows `play`, and what follows `show`
-abbrev pub ArePlay : List (List ℕ) → List ℕ → List ℕ → Type 0
-ArePlay [] air capcodes = ⊥
-ArePlay (word ∷ words) air capcodes = (word ≡ air) × IsName air × AreCapcodeWords words capcodes
+abbrev pub ArePlay : List (List ℕ) → List ℕ → List (List ℕ) → Type 0
+ArePlay [] air receivers = ⊥
+ArePlay (word ∷ words) air receivers = (word ≡ air) × IsName air × AreReceiverWords words receivers
 
 abbrev pub AreShow : List (List ℕ) → List ℕ → Type 0
 AreShow (word ∷ []) air = (word ≡ air) × IsName air
@@ -71,9 +83,9 @@ AreStation (a ∷ s ∷ f ∷ n ∷ []) address settings air count =
     (a ≡ address) × (s ≡ settings) × (f ≡ air) × IsName address × IsName settings × IsName air × IsCountWord n count
 AreStation words address settings air count = ⊥
 
-abbrev pub AreTrial : List (List ℕ) → List ℕ → List ℕ → List ℕ → Type 0
-AreTrial (s ∷ f ∷ words) settings noise capcodes = (s ≡ settings) × (f ≡ noise) × IsName settings × IsName noise × AreCapcodeWords words capcodes
-AreTrial words settings noise capcodes = ⊥
+abbrev pub AreTrial : List (List ℕ) → List ℕ → List ℕ → List (List ℕ) → Type 0
+AreTrial (s ∷ f ∷ words) settings noise receivers = (s ≡ settings) × (f ≡ noise) × IsName settings × IsName noise × AreReceiverWords words receivers
+AreTrial words settings noise receivers = ⊥
 
 -- what follows `send`
 abbrev pub AreSend : List (List ℕ) → List ℕ → List ℕ → Type 0
@@ -88,10 +100,10 @@ AreOne words capcode = ⊥
 abbrev pub IsCommand : List (List ℕ) → Command → Type 0
 IsCommand [] command = ⊥
 IsCommand (name ∷ words) (One capcode) = (name ≡ codes "one") × AreOne words capcode
-IsCommand (name ∷ words) (Play air capcodes) = (name ≡ codes "play") × ArePlay words air capcodes
+IsCommand (name ∷ words) (Play air receivers) = (name ≡ codes "play") × ArePlay words air receivers
 IsCommand (name ∷ words) (Show air) = (name ≡ codes "show") × AreShow words air
 IsCommand (name ∷ words) (Station address settings air count) = (name ≡ codes "station") × AreStation words address settings air count
-IsCommand (name ∷ words) (Trial settings noise capcodes) = (name ≡ codes "trial") × AreTrial words settings noise capcodes
+IsCommand (name ∷ words) (Trial settings noise receivers) = (name ≡ codes "trial") × AreTrial words settings noise receivers
 IsCommand (name ∷ words) (Send address pages) = (name ≡ codes "send") × AreSend words address pages
 
 -- the words are this command's, or no command's

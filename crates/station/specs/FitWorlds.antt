@@ -45,10 +45,10 @@ roomy room old = record { wire = roomy_wire room old.wire; shelf = roomy_shelf r
 abbrev pub HasFiles : Option Command → Objects → Type 0
 HasFiles None old = Unit {0}
 HasFiles (Some (One capcode)) old = Unit {0}
-HasFiles (Some (Play air capcodes)) old = IsTrue (old.shelf.there air)
+HasFiles (Some (Play air receivers)) old = IsTrue (old.shelf.there air)
 HasFiles (Some (Show air)) old = IsTrue (old.shelf.there air)
 HasFiles (Some (Station address settings air count)) old = IsTrue (old.shelf.there settings) × (IsTrue (old.shelf.there air) ⊎ (IsTrue old.shelf.further × (length air ≤ longest_name)))
-HasFiles (Some (Trial settings noise capcodes)) old = IsTrue (old.shelf.there settings) × IsTrue (old.shelf.there noise)
+HasFiles (Some (Trial settings noise receivers)) old = IsTrue (old.shelf.there settings) × IsTrue (old.shelf.there noise)
 HasFiles (Some (Send address pages)) old = IsTrue (old.shelf.there pages) × (old.wire.opened < old.wire.count)
 
 -- For each command, steady objects with its files are fit for it wherever they have so much room or more.

@@ -20,3 +20,5 @@ pub mod OneSend
 pub mod AirRoom
 pub mod OneRun
 pub mod FitWorlds
+pub mod Pairs
+pub mod ReadWords

@@ -7,8 +7,8 @@ use Rattle.station.specs.Commands.{Command}
 abbrev pub meant : Option CommandLine → Option Command
 meant None = None
 meant (Some (One capcode)) = Some (Rattle.station.specs.Commands.One capcode)
-meant (Some (Play air capcodes)) = Some (Rattle.station.specs.Commands.Play air.now capcodes)
+meant (Some (Play air receivers)) = Some (Rattle.station.specs.Commands.Play air.now receivers)
 meant (Some (Show air)) = Some (Rattle.station.specs.Commands.Show air.now)
 meant (Some (Station line)) = Some (Rattle.station.specs.Commands.Station line.address.now line.settings.now line.air.now line.count)
-meant (Some (Trial settings noise capcodes)) = Some (Rattle.station.specs.Commands.Trial settings.now noise.now capcodes)
+meant (Some (Trial settings noise receivers)) = Some (Rattle.station.specs.Commands.Trial settings.now noise.now receivers)
 meant (Some (Send address pages)) = Some (Rattle.station.specs.Commands.Send address.now pages.now)

@@ -36,8 +36,8 @@ bits_listened name shelf = take most_bits (bytes_bits (shelf.file name))
 -- Over a steady shelf that has the file, and a steady output with room for the lines, two runs of `play` that had memory answer the
 -- same, and leave the same.
 abbrev pub OnePlay : Type 0
-OnePlay = (capcodes air : List ℕ) (old new other : Objects) (status another : Status) → FitFile air old.shelf → FitFor old.streams.out (play_lines capcodes (bits_listened air old.shelf))
-    → RunsPlay capcodes air old new status → RunsPlay capcodes air old other another → status ≢ Memory → another ≢ Memory
+OnePlay = (receivers : List (List ℕ)) (air : List ℕ) (old new other : Objects) (status another : Status) → FitFile air old.shelf → FitFor old.streams.out (play_lines receivers (bits_listened air old.shelf))
+    → RunsPlay receivers air old new status → RunsPlay receivers air old other another → status ≢ Memory → another ≢ Memory
     → (another ≡ status) × LeftAlike new other
 
 -- the same of `show`, which takes no memory

@@ -18,10 +18,10 @@ use Rattle.endings.specs.Wrote.{FitFor}
 abbrev pub FitRun : Option Command → Objects → Type 0
 FitRun None old = Unit {0}
 FitRun (Some (One capcode)) old = FitOne capcode old.streams
-FitRun (Some (Play air capcodes)) old = FitFile air old.shelf × FitFor old.streams.out (play_lines capcodes (bits_listened air old.shelf))
+FitRun (Some (Play air receivers)) old = FitFile air old.shelf × FitFor old.streams.out (play_lines receivers (bits_listened air old.shelf))
 FitRun (Some (Show air)) old = FitFile air old.shelf × FitFor old.streams.out (table_of (bits_listened air old.shelf))
 FitRun (Some (Station address settings air count)) old = FitStation settings air count (around old)
-FitRun (Some (Trial settings noise capcodes)) old = FitTrial settings noise capcodes old.shelf old.streams
+FitRun (Some (Trial settings noise receivers)) old = FitTrial settings noise receivers old.shelf old.streams
 FitRun (Some (Send address pages)) old = FitSend pages (around old)
 
 -- The output of errors is steady, and has room for the line about whatever the command may come to.

@@ -17,7 +17,7 @@ use Rattle.serving.specs.Sessions.{SessionOf}
 use Rattle.serving.specs.Trying.{trial_lines}
 
 -- The shelf is steady and has both files, the input is steady, and the output too, with room for the lines of the trial.
-pub record FitTrial (settings noise capcodes : List ℕ) (shelf : Files) (streams : Streams) : Type 0 where
+pub record FitTrial (settings noise : List ℕ) (receivers : List (List ℕ)) (shelf : Files) (streams : Streams) : Type 0 where
   pub tells : IsTrue shelf.tells
   pub steady : IsTrue shelf.steady
   pub there : IsTrue (shelf.there settings)
@@ -27,10 +27,10 @@ pub record FitTrial (settings noise capcodes : List ℕ) (shelf : Files) (stream
   pub out_tells : IsTrue streams.out.tells
   pub out_steady : IsTrue streams.out.steady
   pub room : (parts : Parts) → settings_of (shelf.file settings) ≡ Ok parts → (session : Session) (air : List Bool) → SessionOf parts parts.cells streams.input.left session → IsAir session.pages air
-      → length (trial_lines (play_lines capcodes) session (noisy_bits air (bytes_bits (shelf.file noise)))) ≤ streams.out.room
+      → length (trial_lines (play_lines receivers) session (noisy_bits air (bytes_bits (shelf.file noise)))) ≤ streams.out.room
 
 -- Over fit objects two runs of `trial` that had memory answer the same, and leave the same.
 abbrev pub OneTrial : Type 0
-OneTrial = (settings noise capcodes : List ℕ) (old new other : Objects) (outcome another : Outcome) → FitTrial settings noise capcodes old.shelf old.streams
-    → RunsTrial settings noise capcodes old new outcome → RunsTrial settings noise capcodes old other another → outcome ≢ Ended Memory → another ≢ Ended Memory
+OneTrial = (settings noise : List ℕ) (receivers : List (List ℕ)) (old new other : Objects) (outcome another : Outcome) → FitTrial settings noise receivers old.shelf old.streams
+    → RunsTrial settings noise receivers old new outcome → RunsTrial settings noise receivers old other another → outcome ≢ Ended Memory → another ≢ Ended Memory
     → (another ≡ outcome) × LeftAlike new other

@@ -1,12 +1,13 @@
 -- What a run promises of the pages that receivers hear.
 use Rattle.std.specs.Prelude.{◌≡◌, ℕ, ◌≤◌, ◌⊎◌, Bool, false, List, [], ◌∷◌, ◌++◌, map, take, IsTrue, All}
+use Rattle.std.specs.List.{concat}
 use Rattle.std.proofs.Common.{inl, inr}
 use Rattle.bits.specs.Bits.{bytes_bits}
 use Rattle.page_text.specs.Page.{Page, IsAcceptable}
 use Rattle.air.specs.Near.{IsAirs, Near}
 use Rattle.receiver.specs.Listeners.{is_one_of}
-use Rattle.receiver.specs.Receivers.{is_paired, most_receivers}
-use Rattle.receiver.specs.Shown.{pages_in, pages_of_frame, shown_by}
+use Rattle.receiver.specs.Receivers.{most_receivers}
+use Rattle.receiver.specs.Shown.{has_of, pages_in, pages_of_frame, shown_by}
 use Rattle.subscribers.specs.Parts.{Parts}
 use Rattle.tap_terminal.specs.Session.{Session}
 use Rattle.wires.specs.Files.{Files}
@@ -18,7 +19,7 @@ use Rattle.station.specs.declared.outcomes.Outcome.{Outcome}
 use Rattle.station.specs.declared.outcomes.Outcome.TheVariants.{Ended}
 use Rattle.endings.specs.declared.statuses.Status.TheVariants.{Done, FileFault, OutFault, WireFault}
 use Rattle.near.specs.NearAir.{AreUsable, joined}
-use Rattle.listening.specs.PageLines.{alone_from, pairs_heard}
+use Rattle.listening.specs.PageLines.{pairs_heard}
 use Rattle.serving.specs.Served.{AllFrom, NextFit, Served, airs}
 use Rattle.station.specs.ReadFile.{Unreadable}
 use Rattle.serving.specs.Serving.{Around, AtAppendFault, AtFreshFault}
@@ -27,40 +28,40 @@ use Rattle.station.specs.StationRows.{LeavesWireAndOut, ServedBy, StationRow, Tr
 
 -- What each receiver, by its number, prints of each frame are exactly the pages of its capcodes in these lists, in order, each with its
 -- text.
-abbrev pub HearLists : List ℕ → List (List Page) → List Bool → Type 0
-HearLists capcodes lists bits = (number f : ℕ) → 1 ≤ number → number ≤ most_receivers
-    → pages_of_frame f (shown_by number (pairs_heard capcodes bits)) ≡ pages_of_frame f (pages_in (is_paired (alone_from 1 capcodes) number) (joined lists))
+abbrev pub HearLists : List (List ℕ) → List (List Page) → List Bool → Type 0
+HearLists receivers lists bits = (number f : ℕ) → 1 ≤ number → number ≤ most_receivers
+    → pages_of_frame f (shown_by number (pairs_heard receivers bits)) ≡ pages_of_frame f (pages_in (has_of receivers number) (joined lists))
 
 -- This is so where the bits are near the transmissions of lists of acceptable pages: every preamble is as it was sent, and every word
 -- after it has at most two wrong bits.
-abbrev pub HearNear : List ℕ → List Bool → Type 0
-HearNear capcodes bits = (lists : List (List Page)) → All (All IsAcceptable) lists → Near lists bits → HearLists capcodes lists bits
+abbrev pub HearNear : List (List ℕ) → List Bool → Type 0
+HearNear receivers bits = (lists : List (List Page)) → All (All IsAcceptable) lists → Near lists bits → HearLists receivers lists bits
 
 -- The bits that were heard in a trial are those of the transmission, each xor the bit of the noise in its place. Where they are near the
 -- transmission, and where no bit of the noise is 1, exactly the pages that the session accepted are heard.
-pub record HearsTrial (capcodes : List ℕ) (pages : List Page) (air flips noise : List Bool) : Type 0 where
+pub record HearsTrial (receivers : List (List ℕ)) (pages : List Page) (air flips noise : List Bool) : Type 0 where
   pub bits : noisy_bits air flips ≡ noisy_bits air noise
-  pub near : Near (pages ∷ []) (noisy_bits air flips) → HearLists capcodes (pages ∷ []) (noisy_bits air flips)
-  pub silent : All (λ bit. bit ≡ false) noise → HearLists capcodes (pages ∷ []) (noisy_bits air flips)
+  pub near : Near (pages ∷ []) (noisy_bits air flips) → HearLists receivers (pages ∷ []) (noisy_bits air flips)
+  pub silent : All (λ bit. bit ≡ false) noise → HearLists receivers (pages ∷ []) (noisy_bits air flips)
 
 -- what a trial promises, where it came to Done
-abbrev pub TrialPromise : (settings noise capcodes : List ℕ) (input0 input : Left ℕ) (old new : Files) (out0 out : Written ℕ) (outcome : Outcome)
-    → TrialRow settings noise capcodes input0 input old new out0 out outcome → Type 0
-TrialPromise settings noise capcodes input0 input old new out0 out (Ended Done) row =
-    IsTrue old.tells → HearsTrial capcodes row.tried.tries.tried.session.pages row.tried.tries.tried.air row.tried.tries.flips (bytes_bits (old.file noise))
-TrialPromise settings noise capcodes input0 input old new out0 out outcome row = Unit {0}
+abbrev pub TrialPromise : (settings noise : List ℕ) (receivers : List (List ℕ)) (input0 input : Left ℕ) (old new : Files) (out0 out : Written ℕ) (outcome : Outcome)
+    → TrialRow settings noise receivers input0 input old new out0 out outcome → Type 0
+TrialPromise settings noise receivers input0 input old new out0 out (Ended Done) row =
+    IsTrue old.tells → HearsTrial receivers row.tried.tries.tried.session.pages row.tried.tries.tried.air row.tried.tries.flips (bytes_bits (old.file noise))
+TrialPromise settings noise receivers input0 input old new out0 out outcome row = Unit {0}
 
 -- the pages that sessions accepted, session by session
 abbrev pub accepted_in : {settings : Parts} {spare : ℕ} → List (Served settings spare) → List (List Page)
 accepted_in sessions = map (λ s. s.ran.session.pages) sessions
 
 -- The pages that sessions accepted are acceptable, and these are their transmissions, one after another. They are near as they were
--- sent, and of bits that are near them receivers of any capcodes hear exactly these pages.
+-- sent, and of bits that are near them any receivers hear exactly these pages.
 pub record SendsAccepted (lists : List (List Page)) (bits : List Bool) : Type 0 where
   pub acceptable : All (All IsAcceptable) lists
   pub airs : IsAirs lists bits
   pub clean : Near lists bits
-  pub heard : (capcodes : List ℕ) (now : List Bool) → AreUsable (is_one_of capcodes) → Near lists now → HearLists capcodes lists now
+  pub heard : (receivers : List (List ℕ)) (now : List Bool) → AreUsable (is_one_of (concat receivers)) → Near lists now → HearLists receivers lists now
 
 -- these are the pages of the session of all that is to be heard on the connection of this number
 abbrev pub AreAccepted : Parts → ℕ → Line → ℕ → List Page → Type 0

@@ -111,8 +111,8 @@ pub record RunsOne (capcode : ℕ) (old new : Objects) (status : Status) : Type 
 
 -- `play` and `show`: what is heard of the bits of a file was printed. Wire and input are as before. Where there was no memory for
 -- the receivers of `play`, nothing is touched.
-pub record RunsPlay (capcodes : List ℕ) (air : List ℕ) (old new : Objects) (status : Status) : Type 0 where
-  pub row : Plays (play_lines capcodes) air old.shelf new.shelf old.streams.out new.streams.out status
+pub record RunsPlay (receivers : List (List ℕ)) (air : List ℕ) (old new : Objects) (status : Status) : Type 0 where
+  pub row : Plays (play_lines receivers) air old.shelf new.shelf old.streams.out new.streams.out status
   pub wire : new.wire ≡ old.wire
   pub input : new.streams.input ≡ old.streams.input
 
@@ -129,8 +129,8 @@ pub record RunsStation (address settings air : List ℕ) (count : ℕ) (old new 
 
 -- `trial`: the settings file was read, and the session of the input tried by its settings. Where reading the file failed, where it is
 -- refused, and where there was no memory, nothing else was touched. The wire is as before.
-pub record RunsTrial (settings noise capcodes : List ℕ) (old new : Objects) (outcome : Outcome) : Type 0 where
-  pub row : TrialRow settings noise capcodes old.streams.input new.streams.input old.shelf new.shelf old.streams.out new.streams.out outcome
+pub record RunsTrial (settings noise : List ℕ) (receivers : List (List ℕ)) (old new : Objects) (outcome : Outcome) : Type 0 where
+  pub row : TrialRow settings noise receivers old.streams.input new.streams.input old.shelf new.shelf old.streams.out new.streams.out outcome
   pub wire : new.wire ≡ old.wire
 
 -- `send`: the pages file was read, and a client sent its pages to the address. Where reading the file failed, where it is refused, and where there was
@@ -149,10 +149,10 @@ HasEndedSo row (Misread fault) = ⊥
 abbrev pub Acts : Option Command → Objects → Objects → Outcome → Type 0
 Acts None old new outcome = (outcome ≡ Ended Usage) × (new ≡ old)
 Acts (Some (One capcode)) old new outcome = HasEndedSo (RunsOne capcode old new) outcome
-Acts (Some (Play air capcodes)) old new outcome = HasEndedSo (RunsPlay capcodes air old new) outcome
+Acts (Some (Play air receivers)) old new outcome = HasEndedSo (RunsPlay receivers air old new) outcome
 Acts (Some (Show air)) old new outcome = HasEndedSo (RunsShow air old new) outcome
 Acts (Some (Station address settings air count)) old new outcome = RunsStation address settings air count old new outcome
-Acts (Some (Trial settings noise capcodes)) old new outcome = RunsTrial settings noise capcodes old new outcome
+Acts (Some (Trial settings noise receivers)) old new outcome = RunsTrial settings noise receivers old new outcome
 Acts (Some (Send address pages)) old new outcome = RunsSend address pages old new outcome
 
 -- What a command promises of the pages that receivers hear: `play` of the bits of its file, `trial` of the session that it tried, and
@@ -160,12 +160,12 @@ Acts (Some (Send address pages)) old new outcome = RunsSend address pages old ne
 abbrev pub Promises : (command : Option Command) (old new : Objects) (outcome : Outcome) → Acts command old new outcome → Type 0
 Promises None old new outcome acts = Unit {0}
 Promises (Some (One capcode)) old new outcome acts = Unit {0}
-Promises (Some (Play air capcodes)) old new outcome acts = HearNear capcodes (bytes_bits (old.shelf.file air))
+Promises (Some (Play air receivers)) old new outcome acts = HearNear receivers (bytes_bits (old.shelf.file air))
 Promises (Some (Show air)) old new outcome acts = Unit {0}
 Promises (Some (Send address pages)) old new outcome acts = Unit {0}
 Promises (Some (Station address settings air count)) old new outcome acts = StationPromise address settings air count (around old) (around new) outcome acts.row
-Promises (Some (Trial settings noise capcodes)) old new outcome acts =
-    TrialPromise settings noise capcodes old.streams.input new.streams.input old.shelf new.shelf old.streams.out new.streams.out outcome acts.row
+Promises (Some (Trial settings noise receivers)) old new outcome acts =
+    TrialPromise settings noise receivers old.streams.input new.streams.input old.shelf new.shelf old.streams.out new.streams.out outcome acts.row
 
 -- what all objects of a run tell
 pub record Outside : Type 0 where

@@ -60,17 +60,17 @@ pub record TriesFile (parts : Parts) (spare : ℕ) (printed : List Bool → List
   pub out_well : TrialOutWell parts spare printed input0 bits out0 out status
 
 -- The settings were read, and the session of the input tried by them.
-pub record TriedBy (settings noise capcodes : List ℕ) (input0 input : Left ℕ) (old new : Files) (out0 out : Written ℕ) (status : Status) : Type 0 where
+pub record TriedBy (settings noise : List ℕ) (receivers : List (List ℕ)) (input0 input : Left ℕ) (old new : Files) (out0 out : Written ℕ) (status : Status) : Type 0 where
   pub parts : Parts
   pub shelf : Files
   pub read : ReadSettings settings old shelf parts
-  pub tried : TriesFile parts parts.cells (play_lines capcodes) noise input0 input shelf new out0 out status
+  pub tried : TriesFile parts parts.cells (play_lines receivers) noise input0 input shelf new out0 out status
 
 -- `trial`, by what it came to
-abbrev pub TrialRow : List ℕ → List ℕ → List ℕ → Left ℕ → Left ℕ → Files → Files → Written ℕ → Written ℕ → Outcome → Type 0
-TrialRow settings noise capcodes input0 input old new out0 out (Refused fault) = RefusedSettings settings old new fault × (input ≡ input0) × (out ≡ out0)
-TrialRow settings noise capcodes input0 input old new out0 out (Misread fault) = ⊥
-TrialRow settings noise capcodes input0 input old new out0 out (Ended Memory) = Unharmed settings old new × (input ≡ input0) × (out ≡ out0)
-TrialRow settings noise capcodes input0 input old new out0 out (Ended FileFault) =
-    (Unreadable settings old new × (input ≡ input0) × (out ≡ out0)) ⊎ TriedBy settings noise capcodes input0 input old new out0 out FileFault
-TrialRow settings noise capcodes input0 input old new out0 out (Ended status) = TriedBy settings noise capcodes input0 input old new out0 out status
+abbrev pub TrialRow : List ℕ → List ℕ → List (List ℕ) → Left ℕ → Left ℕ → Files → Files → Written ℕ → Written ℕ → Outcome → Type 0
+TrialRow settings noise receivers input0 input old new out0 out (Refused fault) = RefusedSettings settings old new fault × (input ≡ input0) × (out ≡ out0)
+TrialRow settings noise receivers input0 input old new out0 out (Misread fault) = ⊥
+TrialRow settings noise receivers input0 input old new out0 out (Ended Memory) = Unharmed settings old new × (input ≡ input0) × (out ≡ out0)
+TrialRow settings noise receivers input0 input old new out0 out (Ended FileFault) =
+    (Unreadable settings old new × (input ≡ input0) × (out ≡ out0)) ⊎ TriedBy settings noise receivers input0 input old new out0 out FileFault
+TrialRow settings noise receivers input0 input old new out0 out (Ended status) = TriedBy settings noise receivers input0 input old new out0 out status

@@ -4,7 +4,8 @@ ghost use Rattle.std.specs.Prelude.{◌≡◌, ℕ, List, MatchOption};
 ghost use Rattle.station.specs.Commands.{AreCommand, AreOne, ArePlay, AreSend, AreShow, AreStation, AreTrial, IsCountWord, texts};
 ghost use Rattle.station.specs.Meant.{meant};
 
-use crate::capcodes::{Capcodes, capcode_of, capcodes_of};
+use crate::capcodes::capcode_of;
+use crate::receivers::{Receivers, receivers_of};
 use codeword::Capcode;
 
 /// A command with its words.
@@ -12,14 +13,14 @@ use codeword::Capcode;
 pub(crate) enum CommandLine<'a> {
     /// `one CAPCODE`
     One(Capcode),
-    /// `play AIR CAPCODE ..`
-    Play(&'a str, Capcodes),
+    /// `play AIR RECEIVER ..`
+    Play(&'a str, Receivers),
     /// `show AIR`
     Show(&'a str),
     /// `station ADDRESS SETTINGS AIR N`
     Station(StationLine<'a>),
-    /// `trial SETTINGS NOISE CAPCODE ..`
-    Trial(&'a str, &'a str, Capcodes),
+    /// `trial SETTINGS NOISE RECEIVER ..`
+    Trial(&'a str, &'a str, Receivers),
     /// `send ADDRESS PAGES`
     Send(&'a str, &'a str),
 }
@@ -75,8 +76,8 @@ fn station_line(words: &[String]) -> Option<StationLine<'_>>
 }
 
 /// Reads what follows `trial`.
-fn trial_line(words: &[String]) -> Option<(&str, &str, Capcodes)>
-    ensures { MatchOption result ((settings noise capcodes : List ℕ) → AreTrial (texts words.now) settings noise capcodes → ⊥)
+fn trial_line(words: &[String]) -> Option<(&str, &str, Receivers)>
+    ensures { MatchOption result ((settings noise : List ℕ) (receivers : List (List ℕ)) → AreTrial (texts words.now) settings noise receivers → ⊥)
         (λ line. AreTrial (texts words.now) line.0.now line.1.now line.2) }
 {
     let [settings, noise, rest @ ..] = words else {
@@ -85,10 +86,10 @@ fn trial_line(words: &[String]) -> Option<(&str, &str, Capcodes)>
     if settings.is_empty() || noise.is_empty() {
         return None;
     }
-    let Some(capcodes) = capcodes_of(rest) else {
+    let Some(receivers) = receivers_of(rest) else {
         return None;
     };
-    Some((settings.as_str(), noise.as_str(), capcodes))
+    Some((settings.as_str(), noise.as_str(), receivers))
 }
 
 /// Reads what follows `send`.
@@ -129,18 +130,18 @@ fn show_line(words: &[String]) -> Option<&str>
 }
 
 /// Reads what follows `play`.
-fn play_line(words: &[String]) -> Option<(&str, Capcodes)>
-    ensures { MatchOption result ((air capcodes : List ℕ) → ArePlay (texts words.now) air capcodes → ⊥) (λ line. ArePlay (texts words.now) line.0.now line.1) }
+fn play_line(words: &[String]) -> Option<(&str, Receivers)>
+    ensures { MatchOption result ((air : List ℕ) (receivers : List (List ℕ)) → ArePlay (texts words.now) air receivers → ⊥) (λ line. ArePlay (texts words.now) line.0.now line.1) }
 {
     let (word, rest) = words.split_first()?;
     let air = word.as_str();
     if air.is_empty() {
         return None;
     }
-    let Some(capcodes) = capcodes_of(rest) else {
+    let Some(receivers) = receivers_of(rest) else {
         return None;
     };
-    Some((air, capcodes))
+    Some((air, receivers))
 }
 
 /// Reads the words after the program's name. None exactly where they are no command's form.
@@ -154,7 +155,7 @@ pub(crate) fn parse(words: &[String]) -> Option<CommandLine<'_>>
             None => None,
         },
         "play" => match play_line(rest) {
-            Some((air, capcodes)) => Some(CommandLine::Play(air, capcodes)),
+            Some((air, receivers)) => Some(CommandLine::Play(air, receivers)),
             None => None,
         },
         "show" => match show_line(rest) {
@@ -166,8 +167,8 @@ pub(crate) fn parse(words: &[String]) -> Option<CommandLine<'_>>
             None => None,
         },
         "trial" => match trial_line(rest) {
-            Some((settings, noise, capcodes)) => Some(CommandLine::Trial(
-                settings, noise, capcodes,
+            Some((settings, noise, receivers)) => Some(CommandLine::Trial(
+                settings, noise, receivers,
             )),
             None => None,
         },

@@ -4,7 +4,7 @@
 //! contract says what each status means for every object that it is handed. docs/profile.md, "commands", says what each command does.
 //!
 //! - `top`: `run`.
-//! - `commands`: the command lines, and `capcodes`, the capcodes that one lists.
+//! - `commands`: the command lines, with `receivers`, the receivers that one lists, and `capcodes`, the capcodes of a word.
 //! - `outcomes`: what a command comes to, with `tell`, which puts the line about a status.
 //! - `one_page`: the command `one`: its one block, the text of the block's content, and the transmission.
 //! - `settings_runs`: the commands `station` and `trial`, which read settings.
@@ -25,6 +25,7 @@ pub mod laws;
 pub mod one_page;
 pub mod outcomes;
 mod pages_runs;
+mod receivers;
 mod settings_runs;
 #[cfg(test)]
 mod tests;

@@ -5,12 +5,11 @@ ghost use Rattle.receiver.specs.Listeners.{StandsFor as HasHeard};
 ghost use Rattle.listening.specs.PageLines.{group_lines};
 ghost use Rattle.station.specs.StationRows.{StationRow, TrialRow, TriesFile};
 
-use crate::capcodes::Capcodes;
 use crate::commands::StationLine;
 use crate::files::read_settings;
 use crate::outcomes::Outcome;
+use crate::receivers::{Receivers, group_of};
 use endings::statuses::Status;
-use listening::playing::group_of;
 use receiver::Group;
 use serving::session::Station;
 use std::alloc::Global;
@@ -48,18 +47,18 @@ pub(crate) fn run_trial<F: Shelf, I: Source, O: Sink>(
     alloc: Global,
     settings: &str,
     noise: &str,
-    capcodes: &Capcodes,
+    receivers: &Receivers,
     shelf: &mut F,
     input: &mut I,
     out: &mut O,
 ) -> Outcome
-    ensures { TrialRow settings.now noise.now capcodes.now (I.state input.old) (I.state input.new) (F.state shelf.old) (F.state shelf.new) (O.state out.old) (O.state out.new) result }
+    ensures { TrialRow settings.now noise.now receivers.now (I.state input.old) (I.state input.new) (F.state shelf.old) (F.state shelf.new) (O.state out.old) (O.state out.new) result }
 {
     let settings = match read_settings(alloc, shelf, settings) {
         Ok(settings) => settings,
         Err(outcome) => return outcome,
     };
-    let Ok(mut group) = group_of(alloc, capcodes.as_slice()) else {
+    let Ok(mut group) = group_of(alloc, receivers) else {
         return Outcome::Ended(Status::Memory);
     };
     let Ok(mut station) = Station::new(alloc, settings) else {

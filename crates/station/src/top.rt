@@ -7,15 +7,14 @@ ghost use Rattle.listening.specs.HeardFile.{Plays};
 ghost use Rattle.listening.specs.PageLines.{play_lines};
 ghost use Rattle.station.specs.Rows.{Acts, Runs};
 
-use crate::capcodes::Capcodes;
 use crate::commands::{CommandLine, parse};
 use crate::one_page::one;
 use crate::outcomes::{Outcome, tell_outcome};
 use crate::pages_runs::run_send;
+use crate::receivers::{Receivers, group_of};
 use crate::settings_runs::{run_station, run_trial};
 use endings::statuses::Status;
 use listening::hearing::{play_file, show_file};
-use listening::playing::group_of;
 use std::alloc::Global;
 use wires::Memory;
 use wires::shelf::Shelf;
@@ -42,13 +41,13 @@ fn act<W: Wire, F: Shelf, I: Source, O: Sink>(
     };
     match line {
         CommandLine::One(capcode) => Outcome::Ended(one(alloc, capcode, input, out)),
-        CommandLine::Play(air, capcodes) => {
-            Outcome::Ended(play_air(alloc, air, &capcodes, shelf, out))
+        CommandLine::Play(air, receivers) => {
+            Outcome::Ended(play_air(alloc, air, &receivers, shelf, out))
         }
         CommandLine::Show(air) => Outcome::Ended(show_file(shelf, air, out)),
         CommandLine::Station(line) => run_station(alloc, &line, wire, shelf, out),
-        CommandLine::Trial(settings, noise, capcodes) => {
-            run_trial(alloc, settings, noise, &capcodes, shelf, input, out)
+        CommandLine::Trial(settings, noise, receivers) => {
+            run_trial(alloc, settings, noise, &receivers, shelf, input, out)
         }
         CommandLine::Send(address, pages) => run_send(alloc, address, pages, wire, shelf, out),
     }
@@ -58,13 +57,13 @@ fn act<W: Wire, F: Shelf, I: Source, O: Sink>(
 fn play_air<F: Shelf, O: Sink>(
     alloc: Global,
     air: &str,
-    capcodes: &Capcodes,
+    receivers: &Receivers,
     shelf: &mut F,
     out: &mut O,
 ) -> Status
-    ensures { Plays (play_lines capcodes.now) air.now (F.state shelf.old) (F.state shelf.new) (O.state out.old) (O.state out.new) result }
+    ensures { Plays (play_lines receivers.now) air.now (F.state shelf.old) (F.state shelf.new) (O.state out.old) (O.state out.new) result }
 {
-    match group_of(alloc, capcodes.as_slice()) {
+    match group_of(alloc, receivers) {
         Ok(mut group) => play_file(shelf, air, &mut group, out),
         Err(Memory) => Status::Memory,
     }

@@ -8,7 +8,6 @@ ghost use Rattle.tap_block.specs.Fields.{AreParts};
 
 use entry_line::characters::CR;
 
-
 /// Sums are taken modulo this number.
 pub(crate) const SUMS: u32 = 4096;
 

@@ -2,9 +2,9 @@
 //! likes, and counts each sum anew.
 
 use crate::control::{EOT, ESC, ETB, ETX, STX, US};
-use entry_line::characters::{CR, LF};
 use crate::ends::End;
 use crate::items::Item;
+use entry_line::characters::{CR, LF};
 use std::alloc::{AllocError, Global};
 
 /// An item and, of a block, the first 250 characters of its body.

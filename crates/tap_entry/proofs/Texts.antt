@@ -4,6 +4,7 @@ use Rattle.std.specs.List.{AllByRecursion, flat_map}
 use Rattle.std.proofs.lemmas.Bool.Decides.{eqb_tells, leb_tells, nat_tests}
 use Rattle.entry_line.specs.Chars.{lf, cr}
 use Rattle.tap_block.proofs.First.{not_equal}
+use Rattle.tap_entry.specs.declared.transfer.TheConstants.{LONGEST_TEXT}
 use Rattle.tap_entry.specs.PagesFile.{Sign, plain, a_backslash, a_line_feed, a_return, hexadecimal, IsSign, sign_written, char_meant, digit_of, backslash}
 use Rattle.tap_entry.specs.Signs.{of_digits, hexadecimal_at, escape_at, sign_at, TextUpTo, BeginsText}
 
@@ -128,7 +129,7 @@ each_push : (signs : List Sign) (s : Sign) → AllByRecursion IsSign signs → I
 each_push [] s h k = (k, tt)
 each_push (t ∷ signs) s h k = (h.0, each_push signs s h.1 k)
 
-pub upto_more : (x text rest : List ℕ) (c : ℕ) (behind : List ℕ) → TextUpTo x text rest → sign_at rest ≡ Some (c, behind) → length text ≢ 400 → TextUpTo x (text ++ c ∷ []) behind
+pub upto_more : (x text rest : List ℕ) (c : ℕ) (behind : List ℕ) → TextUpTo x text rest → sign_at rest ≡ Some (c, behind) → length text ≢ LONGEST_TEXT → TextUpTo x (text ++ c ∷ []) behind
 upto_more x text rest c behind h e n =
     let s = sign_sound rest c behind e in
     record {
@@ -153,7 +154,7 @@ length_map [] = refl
 length_map (s ∷ signs) = ap suc (length_map signs)
 
 -- it is too long
-pub text_full : (x text rest : List ℕ) (c : ℕ) (behind other more : List ℕ) → TextUpTo x text rest → sign_at rest ≡ Some (c, behind) → length text ≡ 400 → BeginsText x other more → ⊥
+pub text_full : (x text rest : List ℕ) (c : ℕ) (behind other more : List ℕ) → TextUpTo x text rest → sign_at rest ≡ Some (c, behind) → length text ≡ LONGEST_TEXT → BeginsText x other more → ⊥
 text_full x text rest c behind other more h e n k = by_extra on.extra on.each on.means on.form
   where
     on : GoesOn h.signs k.written_so.signs rest more

@@ -7,6 +7,7 @@ use Rattle.tap_block.specs.Chars.{eot, esc}
 use Rattle.tap_block.specs.Fields.{escaped, block_of}
 use Rattle.tap_block.specs.declared.ends.End.{End as BlockEnd}
 use Rattle.tap_block.specs.declared.ends.End.TheVariants.{Etx as LastBlock, Us as FieldGoesOn}
+use Rattle.tap_entry.specs.declared.transfer.TheConstants.{LONGEST_TEXT}
 use Rattle.tap_entry.specs.declared.hearing.Mark.{Mark}
 use Rattle.tap_entry.specs.declared.hearing.Mark.TheVariants.{Id, Ack, Nak, Rs, End, Go}
 use Rattle.tap_entry.specs.declared.outcomes.Outcome.{Outcome}
@@ -204,10 +205,10 @@ pub data Client (password : Option (List ℕ)) (pages : List PageToSend) (marks 
   still_calling : StaysCalling password pages marks outcomes said → Client password pages marks outcomes said
   answered : IsAnswered password pages marks outcomes said → Client password pages marks outcomes said
 
--- a page that can be sent: an id of 1 to 10 digits, and at most 400 characters up to 0x7E
+-- a page that can be sent: an id of 1 to 10 digits, and no more characters than the limit up to 0x7E
 pub record IsPage (p : PageToSend) : Type 0 where
   pub id_size : length p.id ≤ 10
   pub id_some : 0 < length p.id
   pub id_digits : AllByRecursion (λ c. (48 ≤ c) × (c ≤ 57)) p.id
-  pub text_size : length p.text ≤ 400
+  pub text_size : length p.text ≤ LONGEST_TEXT
   pub text_chars : AllByRecursion (λ c. c ≤ 126) p.text

@@ -1,9 +1,9 @@
 -- The marks in what is heard: docs/profile.md, "marks".
 use Rattle.tap_block.specs.Reading.{without_lf}
-use Rattle.std.specs.Prelude.{◌≡◌, ℕ, ◌-◌, ◌==◌, Bool, not, if◌then◌else◌, nat_eq, List, [], ◌∷◌, ◌++◌, length, take, drop, filter, codes, Option, Some, None, ◌⊎◌}
+use Rattle.std.specs.Prelude.{◌≡◌, ℕ, ◌-◌, ◌==◌, Bool, if◌then◌else◌, nat_eq, List, [], ◌∷◌, ◌++◌, length, take, drop, codes, Option, Some, None, ◌⊎◌}
 use Rattle.std.specs.List.{AllByRecursion, filter_map, flat_map}
 use lib.Pointwise.{pointwise}
-use Rattle.entry_line.specs.Chars.{lf, cr}
+use Rattle.entry_line.specs.Chars.{cr}
 use Rattle.tap_block.specs.Chars.{eot, esc, characters}
 use Rattle.tap_entry.specs.declared.hearing.Mark.{Mark}
 use Rattle.tap_entry.specs.declared.hearing.Mark.TheVariants.{Id, Ack, Nak, Rs, End, Go}

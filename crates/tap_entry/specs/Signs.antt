@@ -2,6 +2,7 @@
 use Rattle.std.specs.Prelude.{◌≡◌, ◌≢◌, ℕ, ◌+◌, ◌*◌, ◌≤◌, ◌==◌, nat_le, Bool, ◌&&◌, if◌then◌else◌, List, [], ◌∷◌, ◌++◌, length, map, Option, Some, None, ◌⊎◌}
 use Rattle.std.specs.List.{AllByRecursion, list_all, flat_map}
 use Rattle.entry_line.specs.Chars.{lf, cr, space}
+use Rattle.tap_entry.specs.declared.transfer.TheConstants.{LONGEST_TEXT}
 use Rattle.tap_entry.specs.Client.{PageToSend}
 use Rattle.tap_entry.specs.PagesFile.{Sign, IsSign, sign_written, char_meant, IsWritten, IsLineOf, AreLinesOf, IsPassword, first_line, digit_of, backslash, most_pages, HasNoPageLine}
 use Rattle.tap_entry.specs.declared.faults.PagesFault.{PagesFault}
@@ -36,19 +37,19 @@ abbrev pub sign_at : List ℕ → Front
 sign_at (c ∷ x) = if c == backslash then escape_at x else if nat_le 32 c && nat_le c 126 then Some (c, x) else None
 sign_at [] = None
 
--- a text of at most 400 characters up to a place
+-- a text of no more characters than the limit up to a place
 pub record TextUpTo (x text rest : List ℕ) : Type 0 where
-  pub size : length text ≤ 400
+  pub size : length text ≤ LONGEST_TEXT
   pub signs : List Sign
   pub each : AllByRecursion IsSign signs
   pub form : x ≡ flat_map sign_written signs ++ rest
   pub means : text ≡ map char_meant signs
 
--- a text of at most 400 characters, LF, and what is behind it
+-- a text of no more characters than the limit, LF, and what is behind it
 pub record BeginsText (x text behind : List ℕ) : Type 0 where
   pub characters : List ℕ
   pub written_so : IsWritten text characters
-  pub size : length text ≤ 400
+  pub size : length text ≤ LONGEST_TEXT
   pub form : x ≡ characters ++ lf ∷ behind
 
 -- a digit

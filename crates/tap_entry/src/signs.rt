@@ -85,7 +85,7 @@ fn line_end(x: &[u8]) -> Option<&[u8]>
 }
 
 /// The text up to the end of the line, and what is behind the line. None where the line doesn't end there, or the text has more than
-/// 400 characters.
+/// `LONGEST_TEXT` characters.
 pub(crate) fn text_line(x: &[u8]) -> Option<(ArrayVec<u8, LONGEST_TEXT>, &[u8])>
     ensures { MatchOption result ((text behind : List ℕ) → BeginsText x.now text behind → ⊥) (λ r. BeginsText x.now r.0.items r.1.now) }
 {

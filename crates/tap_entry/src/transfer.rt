@@ -60,8 +60,8 @@ impl LoggedOn {
         LoggedOn { listener }
     }
 
-    /// Begins a page, whose first block is then to be said. The id has 1 to 10 digits, and the text at most 400 characters, each at
-    /// most 0x7E.
+    /// Begins a page, whose first block is then to be said. The id has 1 to 10 digits, and the text at most `LONGEST_TEXT` characters,
+    /// each at most 0x7E.
     pub fn start(self, id: &[u8], text: &[u8]) -> Sending
         requires page { IsPage (record { id = id.now; text = text.now }) }
         ensures stands { (x : List ℕ) (past : List Mark) → ReaderStandsFor self x past → SendingFor result x past [] }

@@ -7,6 +7,7 @@ use crate::examples::{Page, Piece, ROWS, Row, SESSIONS};
 use crate::twin::played;
 use crate::*;
 use page_pool::{Pool, Ticket};
+use page_text::LONGEST_TEXT;
 use std::alloc::{AllocError, Global};
 use std::process::Abort;
 use std::test::Fail;
@@ -92,11 +93,12 @@ fn first(pool: &Pool, frame: u32) -> Option<Ticket>
 fn text(alloc: Global, pool: &Pool, t: Ticket) -> Result<Vec<u8>, AllocError>
     requires { IsLive pool.now t }
 {
-    let mut text = Vec::new(alloc);
-    for i in 0..pool.length(t) {
-        text.push(pool.byte(t, i))?;
+    let mut text = [0; LONGEST_TEXT];
+    let length = pool.copy_text(t, &mut text);
+    match text.get(..length) {
+        Some(text) => text.to_vec(alloc),
+        None => Ok(Vec::new(alloc)),
     }
-    Ok(text)
 }
 
 /// Takes a page out of the pool: whether the first of its frame is this one.

@@ -182,12 +182,91 @@ fn sync_words_in_slots_are_addresses(rt: HostRuntime) -> Result<(), Fail> {
     Ok(())
 }
 
+/// The slots of the tones to 8, 16 and 15, in this order.
+const TONES: [(usize, u32); 3] = [(0, 0x0000_283F), (1, 0x0000_4DD8), (14, 0x0000_283F)];
+
+/// The words, and the lines that are printed of the tones.
+const SHARED: [(&[&str], &[u8]); 6] = [
+    (
+        &["play", "air.bin", "8", "15", "16"],
+        b"01 0000008 1 \n03 0000016 1 \n02 0000015 1 \n",
+    ),
+    (
+        &["play", "air.bin", "8+15", "16+8"],
+        b"01 0000008 1 \n02 0000008 1 \n02 0000016 1 \n01 0000015 1 \n",
+    ),
+    (
+        &["play", "air.bin", "8", "8"],
+        b"01 0000008 1 \n02 0000008 1 \n",
+    ),
+    (
+        &["play", "air.bin", "9+0000015+2000000+016"],
+        b"01 0000016 1 \n01 0000015 1 \n",
+    ),
+    (
+        &["play", "air.bin", "9", "10+11", "12+15+13"],
+        b"03 0000015 1 \n",
+    ),
+    (&["play", "air.bin", "9+10+11+12", "17"], b""),
+];
+
+#[test]
+fn each_receiver_prints_the_pages_of_its_capcodes(rt: HostRuntime) -> Result<(), Fail> {
+    let mut air = Vec::new(rt.alloc());
+    push_air(&mut air, 1, &TONES, 0)?;
+    for (words, lines) in &SHARED {
+        let left = heard(rt.alloc(), *words, &air, &[])?;
+        assert_eq!(rt; left.status, Status::Done);
+        assert_eq!(rt; left.out.as_slice(), *lines);
+        assert!(rt; left.err.is_empty());
+    }
+    Ok(())
+}
+
+/// So many receivers of the same four capcodes, 9, 15, 17 and 2000000.
+fn alike(alloc: Global, count: usize) -> Result<Vec<&'static str>, AllocError> {
+    let mut words = Vec::new(alloc);
+    words.extend_from_slice(&["play", "air.bin"])?;
+    for _ in 0..count {
+        words.push("9+15+17+2000000")?;
+    }
+    Ok(words)
+}
+
+/// The lines of the tone to 15, for so many receivers.
+fn lines_of_fifteen(alloc: Global, count: u8) -> Result<Vec<u8>, AllocError> {
+    let mut lines = Vec::new(alloc);
+    for number in 1..=count {
+        lines.push(b'0' + number / 10 % 10)?;
+        lines.push(b'0' + number % 10)?;
+        lines.extend_from_slice(b" 0000015 1 \n")?;
+    }
+    Ok(lines)
+}
+
+#[test]
+fn there_are_64_receivers_of_four_capcodes_at_most(rt: HostRuntime) -> Result<(), Fail> {
+    let mut air = Vec::new(rt.alloc());
+    push_air(&mut air, 1, &TONES, 0)?;
+    let words = alike(rt.alloc(), 64)?;
+    let left = heard(rt.alloc(), &words, &air, &[])?;
+    assert_eq!(rt; left.status, Status::Done);
+    assert_eq!(rt;
+        left.out.as_slice(),
+        lines_of_fifteen(rt.alloc(), 64)?.as_slice()
+    );
+    let words = alike(rt.alloc(), 65)?;
+    let left = heard(rt.alloc(), &words, &air, &[])?;
+    assert_eq!(rt; left.status, Status::Usage);
+    assert!(rt; left.out.is_empty());
+    Ok(())
+}
+
 /// The receivers 1 of the capcodes 8 and 15, and 2 of 16 and 8, over the tones to 8, 16 and 15.
 #[test]
 fn receivers_share_a_capcode(rt: HostRuntime) -> Result<(), Fail> {
     let mut air = Vec::new(rt.alloc());
-    let tones = [(0, 0x0000_283F), (1, 0x0000_4DD8), (14, 0x0000_283F)];
-    push_air(&mut air, 1, &tones, 0)?;
+    push_air(&mut air, 1, &TONES, 0)?;
     let [eight, fifteen, sixteen] = [8, 15, 16].map(Capcode::of);
     let eight = eight.expect(&rt, "a usable capcode");
     let fifteen = fifteen.expect(&rt, "a usable capcode");

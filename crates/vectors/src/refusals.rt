@@ -6,7 +6,7 @@ use std::alloc::Global;
 use std::test::Fail;
 
 /// Words that are no command's.
-const NO_COMMANDS: [&[&str]; 26] = [
+const NO_COMMANDS: [&[&str]; 35] = [
     &[],
     &["one"],
     &["one", "2007664"],
@@ -18,16 +18,25 @@ const NO_COMMANDS: [&[&str]; 26] = [
     &["one", "00000008"],
     &["one", "8", "9"],
     &["play", "air.bin"],
-    &["play", "a", "8", "8"],
-    &["play", "air.bin", "8", "08"],
+    &["one", "8+9"],
+    &["play", "a", "8+8"],
+    &["play", "a", "8+08"],
+    &["play", "a", "9+8+8"],
+    &["play", "a", "1+2+3+4+5"],
+    &["play", "a", "8+"],
+    &["play", "a", "+8"],
+    &["play", "a", "8++9"],
+    &["play", "a", "8+2007664"],
+    &["play", "a", "8+00000009"],
     &["play", "air.bin", "8", "2007664"],
+    &["play", "air.bin", "8", ""],
     &["play", "", "8"],
     &["show", "air.bin", "8"],
     &["station", "a", "s", "f", "0"],
     &["station", "127.0.0.1:7000", "s1.toml", "air.bin", "0"],
     &["station", "127.0.0.1:7000", "s1.toml", "air.bin", "1001"],
     &["trial", "s1.toml", "noise.bin"],
-    &["trial", "s1.toml", "noise.bin", "8", "8"],
+    &["trial", "s1.toml", "noise.bin", "8+8"],
     &["send", "air.bin"],
     &["send", "127.0.0.1:7000"],
     &["send", "", "pages.txt"],

@@ -37,7 +37,10 @@ pub(crate) const ANSWERS: &[u8] = b"ID\nGO\nACK\nEND\n---\n";
 /// The same, and the line of its page.
 const HEARD: &[u8] = b"ID\nGO\nACK\nEND\n---\n01 0000008 A HELLO\n";
 
-/// The capcodes; the noise behind 72 bytes 0, or none where the file isn't there; the status, what is printed, and the line about the
+/// The same, and the lines of its page for the receivers 2 and 3.
+const HEARD_TWICE: &[u8] = b"ID\nGO\nACK\nEND\n---\n02 0000008 A HELLO\n03 0000008 A HELLO\n";
+
+/// The receivers; the noise behind 72 bytes 0, or none where the file isn't there; the status, what is printed, and the line about the
 /// status.
 type Row = (
     &'static [&'static str],
@@ -47,11 +50,18 @@ type Row = (
     &'static [u8],
 );
 
-const ROWS: [Row; 5] = [
+const ROWS: [Row; 6] = [
     (&["8"], Some(TWO_WRONG), Status::Done, HEARD, b""),
     (&["8"], Some(THREE_WRONG), Status::Done, ANSWERS, b""),
     (&["8"], Some(&[]), Status::Done, HEARD, b""),
     (&["9", "16"], Some(TWO_WRONG), Status::Done, ANSWERS, b""),
+    (
+        &["9", "16+8", "8"],
+        Some(TWO_WRONG),
+        Status::Done,
+        HEARD_TWICE,
+        b"",
+    ),
     (&["8"], None, Status::FileFault, ANSWERS, b"pocsag: file\n"),
 ];
 
@@ -73,11 +83,11 @@ fn files_of(alloc: Global, noise: Option<&[u32]>) -> Result<Vec<(String, Vec<u8>
     }
 }
 
-/// Tries the session with these capcodes and this noise.
-fn tried(alloc: Global, capcodes: &[&str], noise: Option<&[u32]>) -> Result<Left, Fail> {
+/// Tries the session with these receivers and this noise.
+fn tried(alloc: Global, receivers: &[&str], noise: Option<&[u32]>) -> Result<Left, Fail> {
     let mut words = Vec::new(alloc);
     words.extend_from_slice(&["trial", "s1.toml", "noise.bin"])?;
-    words.extend_from_slice(capcodes)?;
+    words.extend_from_slice(receivers)?;
     let files = files_of(alloc, noise)?;
     let objects = Objects {
         heard: b"",
@@ -91,8 +101,8 @@ fn tried(alloc: Global, capcodes: &[&str], noise: Option<&[u32]>) -> Result<Left
 
 #[test]
 fn a_session_is_tried_through_a_noise(rt: HostRuntime) -> Result<(), Fail> {
-    for (capcodes, noise, status, printed, line) in &ROWS {
-        let left = tried(rt.alloc(), *capcodes, *noise)?;
+    for (receivers, noise, status, printed, line) in &ROWS {
+        let left = tried(rt.alloc(), *receivers, *noise)?;
         assert_eq!(rt; left.status, *status);
         assert_eq!(rt; left.out.as_slice(), *printed);
         assert_eq!(rt; left.err.as_slice(), *line);

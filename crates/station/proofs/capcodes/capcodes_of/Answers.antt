@@ -1,46 +1,44 @@
-use Rattle.std.proofs.Common.{◌≡◌, ◌∙◌, sym, ap, refl, subst, arith, ℕ, List, ◌∷◌, [], length, length-append, true, false, ◌==◌}
-use Rattle.std.specs.List.{list_any}
-use Rattle.station.specs.Commands.{IsCapcodeWord, Say}
-use Rattle.station.proofs.ListedCapcodes.{Differ-more, Say-more, not_full, refuse_full, refuse_twice, refuse_unread, texts-all, texts-at}
-use Rattle.station.proofs.capcodes.capcodes_of.Goals.{then-is_full-via-then-is_full, then-is_full-via-else-is_full+then-contains}
+use Rattle.std.proofs.Common.{arith, rules, []}
+use Rattle.std.proofs.lemmas.Str.Pattern.{split_parts}
+use Rattle.station.proofs.ListedCapcodes.{alone_read, first_read, next_read, plus_parts-at, plus_parts-last, refuse_first, refuse_next, word_read}
 use Rattle.station.proofs.capcodes.capcodes_of.Goals as goal
 
-pub returns-in_err-capcode : goal.returns-in_err-capcode
-returns-in_err-capcode c =
-    let at = texts-at c.args.words.now c.in_ok-first.rest.now c.in_ok-first.first.now c.word-item.result c.loop-word.word-index c.in_ok-first.ensures.cases.0 (omega arith) c.word-item.is in
-    rw (c.from_residual-in_err-capcode.ensures)
-    (refuse_unread _ _ _ _ c.loop-word.capcodes c.loop-word.invariant.say at.0
-    (λ n h. c.in_err-capcode.ensures n (subst (λ (w : List ℕ). IsCapcodeWord w n) (sym c.as_str-in-loop-word.ensures.value) h)))
+pub returns-in_err-capcode_of : goal.returns-in_err-capcode_of
+returns-in_err-capcode_of c =
+    let none = rw c.in_default.is at (split_parts 43 c.args.word.now c.split_once.result c.split_once.ensures.cases (omega arith)) in
+    rw (c.from_residual.ensures) (refuse_first c.args.word.now c.args.word.now [] (plus_parts-last c.args.word.now none) c.in_err-capcode_of.ensures)
 
-pub returns-then-is_full : goal.returns-then-is_full
-returns-then-is_full c =
-    let at = texts-at c.args.words.now c.in_ok-first.rest.now c.in_ok-first.first.now c.word-item.result c.loop-word.word-index c.in_ok-first.ensures.cases.0 (omega arith) c.word-item.is in
-    elim c.then-is_full.branch [
-      | then-is_full-via-then-is_full w ↦ refuse_full _ _ _ _ c.loop-word.capcodes c.loop-word.invariant.say at.0 (w.if-is_full.ensures.0 refl)
-      | then-is_full-via-else-is_full+then-contains w ↦
-          refuse_twice _ _ _ _ c.loop-word.capcodes c.in_ok-capcode.capcode c.loop-word.invariant.say at.0
-          (subst (λ (w : List ℕ). IsCapcodeWord w c.in_ok-capcode.capcode) c.as_str-in-loop-word.ensures.value c.in_ok-capcode.ensures) (subst (λ (xs : List ℕ). list_any (λ d. d == c.in_ok-capcode.capcode) xs ≡ true) w.as_slice.ensures.value (sym w.contains.ensures.value ∙ w.if-contains.true))
-    ]
+pub returns-in_default : goal.returns-in_default
+returns-in_default c =
+    let none = rw c.in_default.is at (split_parts 43 c.args.word.now c.split_once.result c.split_once.ensures.cases (omega arith)) in
+    rw (c.of.ensures) (alone_read c.args.word.now _ (plus_parts-last c.args.word.now none) c.in_ok-capcode_of.ensures)
 
-pub push-requires : goal.push-requires
-push-requires c = not_full _ c.loop-word.invariant.few c.if-is_full.ensures.1
+pub returns-in_err-capcode_of-2 : goal.returns-in_err-capcode_of-2
+returns-in_err-capcode_of-2 c =
+    let cut = rw c.in-Some.is at (split_parts 43 c.args.word.now c.split_once.result c.split_once.ensures.cases (omega arith)) in
+    rw (c.from_residual-in_err-capcode_of-2.ensures) (refuse_first c.args.word.now c.in-Some.first.now _ (plus_parts-at c.args.word.now c.in-Some.first.now c.in-Some.others.now cut.0 cut.1) c.in_err-capcode_of-2.ensures)
 
-pub loop-word-preserved : goal.loop-word-preserved
-loop-word-preserved c =
-    let at = texts-at c.args.words.now c.in_ok-first.rest.now c.in_ok-first.first.now c.word-item.result c.loop-word.word-index c.in_ok-first.ensures.cases.0 (omega arith) c.word-item.is in
-    let own = subst (λ (w : List ℕ). IsCapcodeWord w c.in_ok-capcode.capcode) c.as_str-in-loop-word.ensures.value c.in_ok-capcode.ensures in
-    let less = not_full _ c.loop-word.invariant.few c.if-is_full.ensures.1 in
-    record {
-      say = rw (at.1, c.push.ensures) (Say-more _ _ c.loop-word.capcodes c.in_ok-capcode.capcode c.loop-word.invariant.say own);
-      many = omega (arith, ap length c.push.ensures, length-append c.loop-word.capcodes (c.in_ok-capcode.capcode ∷ []), c.loop-word.invariant.many);
-      few = omega (arith, ap length c.push.ensures, length-append c.loop-word.capcodes (c.in_ok-capcode.capcode ∷ []), less);
-      differ = rw c.push.ensures (Differ-more c.loop-word.capcodes c.in_ok-capcode.capcode c.loop-word.invariant.differ (subst (λ (xs : List ℕ). list_any (λ d. d == c.in_ok-capcode.capcode) xs ≡ false) c.as_slice.ensures.value (sym c.if-contains.ensures.value)));
-    }
+pub parts-init : goal.parts-init
+parts-init c =
+    let cut = rw c.in-Some.is at (split_parts 43 c.args.word.now c.split_once.result c.split_once.ensures.cases (omega arith)) in
+    let parts = plus_parts-at c.args.word.now c.in-Some.first.now c.in-Some.others.now cut.0 cut.1 in
+    (rw (c.of-capcodes.ensures) (first_read c.args.word.now c.in-Some.first.now c.in-Some.others.now _ parts c.in_ok-capcode_of-2.ensures), search rules)
+
+pub returns-in_err-capcodes : goal.returns-in_err-capcodes
+returns-in_err-capcodes c =
+    let l = c.parts in
+    let cut = rw c.in-Some-split_once.is at (split_parts 43 l.rest.now c.split_once-in-parts.result c.split_once-in-parts.ensures.cases (omega arith)) in
+    rw (c.from_residual-in_err-capcodes.ensures)
+    (refuse_next c.args.word.now l.rest.now c.in-Some-split_once.part.now _ l.capcodes l.invariant.0 (plus_parts-at l.rest.now c.in-Some-split_once.part.now c.in-Some-split_once.more.now cut.0 cut.1) c.in_err-capcodes.ensures)
+
+pub parts-preserved : goal.parts-preserved
+parts-preserved c =
+    let l = c.parts in
+    let cut = rw c.in-Some-split_once.is at (split_parts 43 l.rest.now c.split_once-in-parts.result c.split_once-in-parts.ensures.cases (omega arith)) in
+    (next_read c.args.word.now l.rest.now c.in-Some-split_once.part.now c.in-Some-split_once.more.now l.capcodes _ l.invariant.0 (plus_parts-at l.rest.now c.in-Some-split_once.part.now c.in-Some-split_once.more.now cut.0 cut.1) c.in_ok-capcodes.ensures, search rules)
 
 pub returns : goal.returns
-returns c = record {
-  say = subst (λ (ws : List (List ℕ)). Say ws c.loop-word.capcodes) (texts-all c.args.words.now c.in_ok-first.rest.now c.in_ok-first.first.now c.loop-word.word-index c.in_ok-first.ensures.cases.0 (omega arith)) c.loop-word.invariant.say;
-  some = omega (arith, c.loop-word.invariant.many);
-  few = c.loop-word.invariant.few;
-  differ = c.loop-word.invariant.differ;
-}
+returns c =
+    let l = c.parts in
+    let none = rw c.in_default-split_once.is at (split_parts 43 l.rest.now c.split_once-in-parts.result c.split_once-in-parts.ensures.cases (omega arith)) in
+    word_read c.args.word.now l.rest.now l.capcodes _ l.invariant.0 (plus_parts-last l.rest.now none) c.with-2.ensures

@@ -1,16 +1,17 @@
 use Rattle.std.proofs.Common.{◌≡◌, ◌≢◌, arith, subst, length}
+use Rattle.tap_entry.specs.declared.transfer.TheConstants.{LONGEST_TEXT}
 use Rattle.tap_entry.specs.Signs.{TextUpTo}
 use Rattle.tap_entry.proofs.Texts.{upto_more, text_ends, text_full, text_stops}
 use Rattle.tap_entry.proofs.signs.text_line.Goals as goal
 
 pub returns-then-len-eq-LONGEST_TEXT : goal.returns-then-len-eq-LONGEST_TEXT
 returns-then-len-eq-LONGEST_TEXT c text behind h =
-    let n : length c.loop-c.text.items ≡ 400 = omega arith in
+    let n : length c.loop-c.text.items ≡ LONGEST_TEXT = omega arith in
     text_full _ c.loop-c.text.items c.loop-c.rest.now c.in-Some.c c.in-Some.behind.now text behind c.loop-c.invariant c.in-Some.ensures.value n h
 
 pub loop-c-preserved : goal.loop-c-preserved
 loop-c-preserved c =
-    let n : length c.loop-c.text.items ≢ 400 = omega arith in
+    let n : length c.loop-c.text.items ≢ LONGEST_TEXT = omega arith in
     rw c.push.ensures.items (upto_more _ c.loop-c.text.items c.loop-c.rest.now c.in-Some.c c.in-Some.behind.now c.loop-c.invariant c.in-Some.ensures.value n)
 
 pub returns-in-Some-line_end : goal.returns-in-Some-line_end

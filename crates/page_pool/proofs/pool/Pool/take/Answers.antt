@@ -1,6 +1,7 @@
 use Rattle.std.proofs.Common.{◌≡◌, ◌≤◌, ◌∙◌, ap, sym, subst, arith, length}
 use Rattle.std.proofs.lemmas.List.{with_items_is}
 use Rattle.std.specs.Prelude.{slice_set}
+use Rattle.page_text.specs.declared.limits.TheConstants.{LONGEST_TEXT}
 use Rattle.page_pool.specs.Cells.{cells_for}
 use Rattle.page_pool.specs.Layout.{head, unlinked}
 use Rattle.page_pool.proofs.Taking as taking
@@ -16,7 +17,7 @@ pub cells_for-cells-requires : goal.cells_for-cells-requires
 cells_for-cells-requires c =
     let b = taking.below c.self.inside c.self.invariant c.args.self.now c.self.view_is c.t.inside.cell c.args.t c.t.view_is c.requires in
     let s = taking.short c.self.inside c.self.invariant c.args.self.now c.self.view_is c.t.inside.cell c.args.t c.t.view_is c.requires in
-    subst (λ h. h.length ≤ 400) (sym (read_head c.self.inside.heads.items c.t.inside.cell _ b c.index-head.ensures)) s
+    subst (λ h. h.length ≤ LONGEST_TEXT) (sym (read_head c.self.inside.heads.items c.t.inside.cell _ b c.index-head.ensures)) s
 
 pub cell_at-end-requires : goal.cell_at-end-requires
 cell_at-end-requires c =

@@ -1,7 +1,8 @@
-use Rattle.std.proofs.Common.{List, [], refl, subst, rules}
+use Rattle.std.proofs.Common.{List, [], Option, refl, sym, ◌∙◌, ap, subst, rules}
+use Rattle.receiver.specs.FrontSteps.{page_after, completed_by}
 use Rattle.std.specs.Map.{keys_of}
 use Rattle.receiver.specs.Heard.{HeardPage}
-use Rattle.receiver.specs.Listeners.{Listener, listener_of, ready_pages}
+use Rattle.receiver.specs.Listeners.{Listener, is_one_of, listener_of, ready_pages}
 use Rattle.wires.specs.Pieces.{taken_of}
 use Rattle.receiver.proofs.Last.{last_page}
 use Rattle.receiver.proofs.Meets.{Met, fed_met, met_slots}
@@ -12,7 +13,7 @@ pub returns-in-Some-clause-capcodes : goal.returns-in-Some-clause-capcodes
 returns-in-Some-clause-capcodes g c =
     let before = listener_of c.loop-page.self-inside.front (keys_of c.loop-page.self-inside.holders) c.loop-page.self-inside.holders c.loop-page.self-inside.gathering in
     let after = listener_of c.feed_piece-event.new.self (keys_of c.loop-page.self-inside.holders) c.loop-page.self-inside.holders c.meet.new.self in
-    let met : Met before after c.feed_piece-event.result (taken_of c.loop-page.piece c.feed_piece-event.new.piece) = record { capcodes = refl; hears = c.feed_piece-event.ensures.hears; page = c.meet.ensures.page; ready = c.meet.ensures.ready } in
+    let met : Met before after c.feed_piece-event.result (taken_of c.loop-page.piece c.feed_piece-event.new.piece) = record { capcodes = refl; hears = c.feed_piece-event.ensures.hears; page = c.meet.ensures.page ∙ ap (λ (u : Option HeardPage). page_after (is_one_of before.capcodes) u c.feed_piece-event.result) c.forget.ensures.page; ready = ap (λ (u : Option HeardPage). completed_by u c.feed_piece-event.result) (sym c.forget.ensures.page) ∙ c.meet.ensures.ready } in
     let all = fed_then _ _ _ _ _ _ _ c.loop-page.invariant.fed (fed_met before after c.feed_piece-event.result c.loop-page.piece c.feed_piece-event.new.piece met refl c.feed_piece-event.ensures.whole) in
     all.capcodes
 
@@ -20,7 +21,7 @@ pub returns-in-Some-clause-holders : goal.returns-in-Some-clause-holders
 returns-in-Some-clause-holders g c =
     let before = listener_of c.loop-page.self-inside.front (keys_of c.loop-page.self-inside.holders) c.loop-page.self-inside.holders c.loop-page.self-inside.gathering in
     let after = listener_of c.feed_piece-event.new.self (keys_of c.loop-page.self-inside.holders) c.loop-page.self-inside.holders c.meet.new.self in
-    let met : Met before after c.feed_piece-event.result (taken_of c.loop-page.piece c.feed_piece-event.new.piece) = record { capcodes = refl; hears = c.feed_piece-event.ensures.hears; page = c.meet.ensures.page; ready = c.meet.ensures.ready } in
+    let met : Met before after c.feed_piece-event.result (taken_of c.loop-page.piece c.feed_piece-event.new.piece) = record { capcodes = refl; hears = c.feed_piece-event.ensures.hears; page = c.meet.ensures.page ∙ ap (λ (u : Option HeardPage). page_after (is_one_of before.capcodes) u c.feed_piece-event.result) c.forget.ensures.page; ready = ap (λ (u : Option HeardPage). completed_by u c.feed_piece-event.result) (sym c.forget.ensures.page) ∙ c.meet.ensures.ready } in
     let all = fed_then _ _ _ _ _ _ _ c.loop-page.invariant.fed (fed_met before after c.feed_piece-event.result c.loop-page.piece c.feed_piece-event.new.piece met refl c.feed_piece-event.ensures.whole) in
     all.holders
 
@@ -28,7 +29,7 @@ pub returns-in-Some-clause-stands : goal.returns-in-Some-clause-stands
 returns-in-Some-clause-stands g c =
     let before = listener_of c.loop-page.self-inside.front (keys_of c.loop-page.self-inside.holders) c.loop-page.self-inside.holders c.loop-page.self-inside.gathering in
     let after = listener_of c.feed_piece-event.new.self (keys_of c.loop-page.self-inside.holders) c.loop-page.self-inside.holders c.meet.new.self in
-    let met : Met before after c.feed_piece-event.result (taken_of c.loop-page.piece c.feed_piece-event.new.piece) = record { capcodes = refl; hears = c.feed_piece-event.ensures.hears; page = c.meet.ensures.page; ready = c.meet.ensures.ready } in
+    let met : Met before after c.feed_piece-event.result (taken_of c.loop-page.piece c.feed_piece-event.new.piece) = record { capcodes = refl; hears = c.feed_piece-event.ensures.hears; page = c.meet.ensures.page ∙ ap (λ (u : Option HeardPage). page_after (is_one_of before.capcodes) u c.feed_piece-event.result) c.forget.ensures.page; ready = ap (λ (u : Option HeardPage). completed_by u c.feed_piece-event.result) (sym c.forget.ensures.page) ∙ c.meet.ensures.ready } in
     let all = fed_then _ _ _ _ _ _ _ c.loop-page.invariant.fed (fed_met before after c.feed_piece-event.result c.loop-page.piece c.feed_piece-event.new.piece met refl c.feed_piece-event.ensures.whole) in
     all.stands
 
@@ -36,7 +37,7 @@ pub returns-in-Some-clause-page : goal.returns-in-Some-clause-page
 returns-in-Some-clause-page g c =
     let before = listener_of c.loop-page.self-inside.front (keys_of c.loop-page.self-inside.holders) c.loop-page.self-inside.holders c.loop-page.self-inside.gathering in
     let after = listener_of c.feed_piece-event.new.self (keys_of c.loop-page.self-inside.holders) c.loop-page.self-inside.holders c.meet.new.self in
-    let met : Met before after c.feed_piece-event.result (taken_of c.loop-page.piece c.feed_piece-event.new.piece) = record { capcodes = refl; hears = c.feed_piece-event.ensures.hears; page = c.meet.ensures.page; ready = c.meet.ensures.ready } in
+    let met : Met before after c.feed_piece-event.result (taken_of c.loop-page.piece c.feed_piece-event.new.piece) = record { capcodes = refl; hears = c.feed_piece-event.ensures.hears; page = c.meet.ensures.page ∙ ap (λ (u : Option HeardPage). page_after (is_one_of before.capcodes) u c.feed_piece-event.result) c.forget.ensures.page; ready = ap (λ (u : Option HeardPage). completed_by u c.feed_piece-event.result) (sym c.forget.ensures.page) ∙ c.meet.ensures.ready } in
     let all = fed_then _ _ _ _ _ _ _ c.loop-page.invariant.fed (fed_met before after c.feed_piece-event.result c.loop-page.piece c.feed_piece-event.new.piece met refl c.feed_piece-event.ensures.whole) in
     all.page
 
@@ -44,7 +45,7 @@ pub returns-in-Some-clause-whole : goal.returns-in-Some-clause-whole
 returns-in-Some-clause-whole g c =
     let before = listener_of c.loop-page.self-inside.front (keys_of c.loop-page.self-inside.holders) c.loop-page.self-inside.holders c.loop-page.self-inside.gathering in
     let after = listener_of c.feed_piece-event.new.self (keys_of c.loop-page.self-inside.holders) c.loop-page.self-inside.holders c.meet.new.self in
-    let met : Met before after c.feed_piece-event.result (taken_of c.loop-page.piece c.feed_piece-event.new.piece) = record { capcodes = refl; hears = c.feed_piece-event.ensures.hears; page = c.meet.ensures.page; ready = c.meet.ensures.ready } in
+    let met : Met before after c.feed_piece-event.result (taken_of c.loop-page.piece c.feed_piece-event.new.piece) = record { capcodes = refl; hears = c.feed_piece-event.ensures.hears; page = c.meet.ensures.page ∙ ap (λ (u : Option HeardPage). page_after (is_one_of before.capcodes) u c.feed_piece-event.result) c.forget.ensures.page; ready = ap (λ (u : Option HeardPage). completed_by u c.feed_piece-event.result) (sym c.forget.ensures.page) ∙ c.meet.ensures.ready } in
     let all = fed_then _ _ _ _ _ _ _ c.loop-page.invariant.fed (fed_met before after c.feed_piece-event.result c.loop-page.piece c.feed_piece-event.new.piece met refl c.feed_piece-event.ensures.whole) in
     all.whole
 
@@ -58,7 +59,7 @@ pub returns-in-Some-clause-steps : goal.returns-in-Some-clause-steps
 returns-in-Some-clause-steps g c =
     let before = listener_of c.loop-page.self-inside.front (keys_of c.loop-page.self-inside.holders) c.loop-page.self-inside.holders c.loop-page.self-inside.gathering in
     let after = listener_of c.feed_piece-event.new.self (keys_of c.loop-page.self-inside.holders) c.loop-page.self-inside.holders c.meet.new.self in
-    let met : Met before after c.feed_piece-event.result (taken_of c.loop-page.piece c.feed_piece-event.new.piece) = record { capcodes = refl; hears = c.feed_piece-event.ensures.hears; page = c.meet.ensures.page; ready = c.meet.ensures.ready } in
+    let met : Met before after c.feed_piece-event.result (taken_of c.loop-page.piece c.feed_piece-event.new.piece) = record { capcodes = refl; hears = c.feed_piece-event.ensures.hears; page = c.meet.ensures.page ∙ ap (λ (u : Option HeardPage). page_after (is_one_of before.capcodes) u c.feed_piece-event.result) c.forget.ensures.page; ready = ap (λ (u : Option HeardPage). completed_by u c.feed_piece-event.result) (sym c.forget.ensures.page) ∙ c.meet.ensures.ready } in
     let all = fed_then _ _ _ _ _ _ _ c.loop-page.invariant.fed (fed_met before after c.feed_piece-event.result c.loop-page.piece c.feed_piece-event.new.piece met refl c.feed_piece-event.ensures.whole) in
     counts_then _ _ _ _ _ _ _ _ c.loop-page.invariant.fed c.feed_piece-event.ensures.whole c.loop-page.invariant.counts (met_slots before after c.feed_piece-event.result _ _ _ met c.meet.ensures.steps)
 
@@ -66,7 +67,7 @@ pub returns-then-is_empty-clause-capcodes : goal.returns-then-is_empty-clause-ca
 returns-then-is_empty-clause-capcodes g c =
     let before = listener_of c.loop-page.self-inside.front (keys_of c.loop-page.self-inside.holders) c.loop-page.self-inside.holders c.loop-page.self-inside.gathering in
     let after = listener_of c.feed_piece-event.new.self (keys_of c.loop-page.self-inside.holders) c.loop-page.self-inside.holders c.meet.new.self in
-    let met : Met before after c.feed_piece-event.result (taken_of c.loop-page.piece c.feed_piece-event.new.piece) = record { capcodes = refl; hears = c.feed_piece-event.ensures.hears; page = c.meet.ensures.page; ready = c.meet.ensures.ready } in
+    let met : Met before after c.feed_piece-event.result (taken_of c.loop-page.piece c.feed_piece-event.new.piece) = record { capcodes = refl; hears = c.feed_piece-event.ensures.hears; page = c.meet.ensures.page ∙ ap (λ (u : Option HeardPage). page_after (is_one_of before.capcodes) u c.feed_piece-event.result) c.forget.ensures.page; ready = ap (λ (u : Option HeardPage). completed_by u c.feed_piece-event.result) (sym c.forget.ensures.page) ∙ c.meet.ensures.ready } in
     let all = fed_then _ _ _ _ _ _ _ c.loop-page.invariant.fed (fed_met before after c.feed_piece-event.result c.loop-page.piece c.feed_piece-event.new.piece met refl c.feed_piece-event.ensures.whole) in
     all.capcodes
 
@@ -74,7 +75,7 @@ pub returns-then-is_empty-clause-holders : goal.returns-then-is_empty-clause-hol
 returns-then-is_empty-clause-holders g c =
     let before = listener_of c.loop-page.self-inside.front (keys_of c.loop-page.self-inside.holders) c.loop-page.self-inside.holders c.loop-page.self-inside.gathering in
     let after = listener_of c.feed_piece-event.new.self (keys_of c.loop-page.self-inside.holders) c.loop-page.self-inside.holders c.meet.new.self in
-    let met : Met before after c.feed_piece-event.result (taken_of c.loop-page.piece c.feed_piece-event.new.piece) = record { capcodes = refl; hears = c.feed_piece-event.ensures.hears; page = c.meet.ensures.page; ready = c.meet.ensures.ready } in
+    let met : Met before after c.feed_piece-event.result (taken_of c.loop-page.piece c.feed_piece-event.new.piece) = record { capcodes = refl; hears = c.feed_piece-event.ensures.hears; page = c.meet.ensures.page ∙ ap (λ (u : Option HeardPage). page_after (is_one_of before.capcodes) u c.feed_piece-event.result) c.forget.ensures.page; ready = ap (λ (u : Option HeardPage). completed_by u c.feed_piece-event.result) (sym c.forget.ensures.page) ∙ c.meet.ensures.ready } in
     let all = fed_then _ _ _ _ _ _ _ c.loop-page.invariant.fed (fed_met before after c.feed_piece-event.result c.loop-page.piece c.feed_piece-event.new.piece met refl c.feed_piece-event.ensures.whole) in
     all.holders
 
@@ -82,7 +83,7 @@ pub returns-then-is_empty-clause-stands : goal.returns-then-is_empty-clause-stan
 returns-then-is_empty-clause-stands g c =
     let before = listener_of c.loop-page.self-inside.front (keys_of c.loop-page.self-inside.holders) c.loop-page.self-inside.holders c.loop-page.self-inside.gathering in
     let after = listener_of c.feed_piece-event.new.self (keys_of c.loop-page.self-inside.holders) c.loop-page.self-inside.holders c.meet.new.self in
-    let met : Met before after c.feed_piece-event.result (taken_of c.loop-page.piece c.feed_piece-event.new.piece) = record { capcodes = refl; hears = c.feed_piece-event.ensures.hears; page = c.meet.ensures.page; ready = c.meet.ensures.ready } in
+    let met : Met before after c.feed_piece-event.result (taken_of c.loop-page.piece c.feed_piece-event.new.piece) = record { capcodes = refl; hears = c.feed_piece-event.ensures.hears; page = c.meet.ensures.page ∙ ap (λ (u : Option HeardPage). page_after (is_one_of before.capcodes) u c.feed_piece-event.result) c.forget.ensures.page; ready = ap (λ (u : Option HeardPage). completed_by u c.feed_piece-event.result) (sym c.forget.ensures.page) ∙ c.meet.ensures.ready } in
     let all = fed_then _ _ _ _ _ _ _ c.loop-page.invariant.fed (fed_met before after c.feed_piece-event.result c.loop-page.piece c.feed_piece-event.new.piece met refl c.feed_piece-event.ensures.whole) in
     all.stands
 
@@ -90,7 +91,7 @@ pub returns-then-is_empty-clause-page : goal.returns-then-is_empty-clause-page
 returns-then-is_empty-clause-page g c =
     let before = listener_of c.loop-page.self-inside.front (keys_of c.loop-page.self-inside.holders) c.loop-page.self-inside.holders c.loop-page.self-inside.gathering in
     let after = listener_of c.feed_piece-event.new.self (keys_of c.loop-page.self-inside.holders) c.loop-page.self-inside.holders c.meet.new.self in
-    let met : Met before after c.feed_piece-event.result (taken_of c.loop-page.piece c.feed_piece-event.new.piece) = record { capcodes = refl; hears = c.feed_piece-event.ensures.hears; page = c.meet.ensures.page; ready = c.meet.ensures.ready } in
+    let met : Met before after c.feed_piece-event.result (taken_of c.loop-page.piece c.feed_piece-event.new.piece) = record { capcodes = refl; hears = c.feed_piece-event.ensures.hears; page = c.meet.ensures.page ∙ ap (λ (u : Option HeardPage). page_after (is_one_of before.capcodes) u c.feed_piece-event.result) c.forget.ensures.page; ready = ap (λ (u : Option HeardPage). completed_by u c.feed_piece-event.result) (sym c.forget.ensures.page) ∙ c.meet.ensures.ready } in
     let all = fed_then _ _ _ _ _ _ _ c.loop-page.invariant.fed (fed_met before after c.feed_piece-event.result c.loop-page.piece c.feed_piece-event.new.piece met refl c.feed_piece-event.ensures.whole) in
     all.page
 
@@ -98,7 +99,7 @@ pub returns-then-is_empty-clause-whole : goal.returns-then-is_empty-clause-whole
 returns-then-is_empty-clause-whole g c =
     let before = listener_of c.loop-page.self-inside.front (keys_of c.loop-page.self-inside.holders) c.loop-page.self-inside.holders c.loop-page.self-inside.gathering in
     let after = listener_of c.feed_piece-event.new.self (keys_of c.loop-page.self-inside.holders) c.loop-page.self-inside.holders c.meet.new.self in
-    let met : Met before after c.feed_piece-event.result (taken_of c.loop-page.piece c.feed_piece-event.new.piece) = record { capcodes = refl; hears = c.feed_piece-event.ensures.hears; page = c.meet.ensures.page; ready = c.meet.ensures.ready } in
+    let met : Met before after c.feed_piece-event.result (taken_of c.loop-page.piece c.feed_piece-event.new.piece) = record { capcodes = refl; hears = c.feed_piece-event.ensures.hears; page = c.meet.ensures.page ∙ ap (λ (u : Option HeardPage). page_after (is_one_of before.capcodes) u c.feed_piece-event.result) c.forget.ensures.page; ready = ap (λ (u : Option HeardPage). completed_by u c.feed_piece-event.result) (sym c.forget.ensures.page) ∙ c.meet.ensures.ready } in
     let all = fed_then _ _ _ _ _ _ _ c.loop-page.invariant.fed (fed_met before after c.feed_piece-event.result c.loop-page.piece c.feed_piece-event.new.piece met refl c.feed_piece-event.ensures.whole) in
     all.whole
 
@@ -109,7 +110,7 @@ pub returns-then-is_empty-clause-steps : goal.returns-then-is_empty-clause-steps
 returns-then-is_empty-clause-steps g c =
     let before = listener_of c.loop-page.self-inside.front (keys_of c.loop-page.self-inside.holders) c.loop-page.self-inside.holders c.loop-page.self-inside.gathering in
     let after = listener_of c.feed_piece-event.new.self (keys_of c.loop-page.self-inside.holders) c.loop-page.self-inside.holders c.meet.new.self in
-    let met : Met before after c.feed_piece-event.result (taken_of c.loop-page.piece c.feed_piece-event.new.piece) = record { capcodes = refl; hears = c.feed_piece-event.ensures.hears; page = c.meet.ensures.page; ready = c.meet.ensures.ready } in
+    let met : Met before after c.feed_piece-event.result (taken_of c.loop-page.piece c.feed_piece-event.new.piece) = record { capcodes = refl; hears = c.feed_piece-event.ensures.hears; page = c.meet.ensures.page ∙ ap (λ (u : Option HeardPage). page_after (is_one_of before.capcodes) u c.feed_piece-event.result) c.forget.ensures.page; ready = ap (λ (u : Option HeardPage). completed_by u c.feed_piece-event.result) (sym c.forget.ensures.page) ∙ c.meet.ensures.ready } in
     let all = fed_then _ _ _ _ _ _ _ c.loop-page.invariant.fed (fed_met before after c.feed_piece-event.result c.loop-page.piece c.feed_piece-event.new.piece met refl c.feed_piece-event.ensures.whole) in
     counts_then _ _ _ _ _ _ _ _ c.loop-page.invariant.fed c.feed_piece-event.ensures.whole c.loop-page.invariant.counts (met_slots before after c.feed_piece-event.result _ _ _ met c.meet.ensures.steps)
 
@@ -123,7 +124,7 @@ pub loop-page-preserved : goal.loop-page-preserved
 loop-page-preserved g c =
     let before = listener_of c.loop-page.self-inside.front (keys_of c.loop-page.self-inside.holders) c.loop-page.self-inside.holders c.loop-page.self-inside.gathering in
     let after = listener_of c.feed_piece-event.new.self (keys_of c.loop-page.self-inside.holders) c.loop-page.self-inside.holders c.meet.new.self in
-    let met : Met before after c.feed_piece-event.result (taken_of c.loop-page.piece c.feed_piece-event.new.piece) = record { capcodes = refl; hears = c.feed_piece-event.ensures.hears; page = c.meet.ensures.page; ready = c.meet.ensures.ready } in
+    let met : Met before after c.feed_piece-event.result (taken_of c.loop-page.piece c.feed_piece-event.new.piece) = record { capcodes = refl; hears = c.feed_piece-event.ensures.hears; page = c.meet.ensures.page ∙ ap (λ (u : Option HeardPage). page_after (is_one_of before.capcodes) u c.feed_piece-event.result) c.forget.ensures.page; ready = ap (λ (u : Option HeardPage). completed_by u c.feed_piece-event.result) (sym c.forget.ensures.page) ∙ c.meet.ensures.ready } in
     let all = fed_then _ _ _ _ _ _ _ c.loop-page.invariant.fed (fed_met before after c.feed_piece-event.result c.loop-page.piece c.feed_piece-event.new.piece met refl c.feed_piece-event.ensures.whole) in
     let nothing = none_ready c.meet.result c.meet.new.self.ready (search rules) c.meet.ensures.answer in
     record {
