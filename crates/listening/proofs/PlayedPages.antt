@@ -57,17 +57,17 @@ lines-for page [] = refl
 lines-for page (number ∷ numbers) = ap (λ (rest : List ℕ). shown_line (number, page) ++ rest) (lines-for page numbers)
 
 -- a piece that completes a page
-pub prints_page : {T E : Type 0} (group : Listener) (bits next : List Bool) (ready : Option HeardPage) (answer : Option Ready) (page : Ready) (n : ℕ) (into : List ℕ) (o1 o2 : Written ℕ)
+pub prints_page : {T E : Type 0} (group : Listener) (bits next : List Bool) (ready : Option HeardPage) (answer : Option Ready) (page : Ready) (said : List ℕ) (o1 o2 : Written ℕ)
     (r : Result T E) → answer ≡ Some page → answer ≡ ready_answer ready
     → heard (is_one_of group.capcodes) (bits ++ next) ≡ heard (is_one_of group.capcodes) bits ++ ready_pages ready
-    → IfSome ready (λ p. take n into ≡ text_of p.function p.groups)
-    → Puts o1 o2 (lines_for page.capcode page.function (take n into) (numbers_with (has_in group.holders) page.capcode)) r
+    → IfSome ready (λ p. said ≡ text_of p.function p.groups)
+    → Puts o1 o2 (lines_for page.capcode page.function said (numbers_with (has_in group.holders) page.capcode)) r
     → Prints (group_lines group) bits next o1 o2 r
-prints_page group bits next None answer page n into o1 o2 r some is e text put = absurd (some_none (sym some ∙ is))
+prints_page group bits next None answer page said o1 o2 r some is e text put = absurd (some_none (sym some ∙ is))
   where
     some_none : {X : Type 0} {x : X} → Some x ≡ None → ⊥
     some_none p = cc
-prints_page group bits next (Some p) answer page n into o1 o2 r some is e text put =
+prints_page group bits next (Some p) answer page said o1 o2 r some is e text put =
     let same : page ≡ record { capcode = p.capcode; function = p.function } = ap (λ (a : Option Ready). ready_of a page) (sym some ∙ is) in
     let numbers = numbers_with (has_in group.holders) p.capcode in
     record {
@@ -77,7 +77,7 @@ prints_page group bits next (Some p) answer page n into o1 o2 r some is e text p
           ∙ ap (λ (rest : List ℕ). group_lines group bits ++ rest)
           (ap shown_lines (append-nil (shown_page (has_in group.holders) (with_text p))) ∙ lines-for (with_text p) numbers);
       put = subst (λ (piece : List ℕ). Puts o1 o2 piece r)
-          (ap (λ (a : Ready). lines_for a.capcode a.function (take n into) (numbers_with (has_in group.holders) a.capcode)) same
+          (ap (λ (a : Ready). lines_for a.capcode a.function said (numbers_with (has_in group.holders) a.capcode)) same
           ∙ ap (λ (t : List ℕ). lines_for p.capcode p.function t numbers) text) put;
     }
 

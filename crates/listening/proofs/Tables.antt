@@ -36,12 +36,9 @@ unfolding stretches first_stretches
 entries-none = refl
 
 -- an address word in a slot, and a message word
-pub kind_text-address : (place : ℕ) (kind : Option WordKind) (said : WordKind) (high : ℕ) (function : Function) → kind ≡ Some said → said ≡ Address high function → place < 16
-    → kind_text place kind ≡ codes "address " ++ (decimal_digits 7 (8 * high + place / 2) ++ (32 ∷ letter_of function ∷ []))
-kind_text-address place kind said high function e f lt =
-    let at : capcode_at place high ≡ 8 * high + place / 2 = omega (arith, lt) in
-    ap (kind_text place) (e ∙ ap (λ (k : WordKind). Some k) f)
-    ∙ ap (λ (n : ℕ). codes "address " ++ (decimal_digits 7 n ++ (32 ∷ letter_of function ∷ []))) at
+pub kind_text-address : (place : ℕ) (kind : Option WordKind) (said : WordKind) (high : ℕ) (function : Function) → kind ≡ Some said → said ≡ Address high function
+    → kind_text place kind ≡ codes "address " ++ (decimal_digits 7 (capcode_at place high) ++ (32 ∷ letter_of function ∷ []))
+kind_text-address place kind said high function e f = ap (kind_text place) (e ∙ ap (λ (k : WordKind). Some k) f)
 
 pub kind_text-message : (place : ℕ) (kind : Option WordKind) (said : WordKind) (group : ℕ) → kind ≡ Some said → said ≡ Message group
     → kind_text place kind ≡ codes "message " ++ hex_digits 5 group

@@ -1,13 +1,16 @@
 -- The pages that are heard, as they are printed. docs/profile.md, "printed line".
-use Rattle.std.specs.Prelude.{ℕ, Bool, List, [], ◌∷◌, ◌++◌, map, flat_map}
+use Rattle.std.specs.Prelude.{◌≡◌, ℕ, Bool, List, [], ◌∷◌, ◌++◌, map, flat_map, Result, IfSome}
 use Rattle.std.specs.List.{concat}
 use Rattle.codeword.specs.declared.functions.Function.{Function}
 use Rattle.page_text.specs.Line.{decimal_digits, line_of}
 use Rattle.page_text.specs.Page.{Page}
+use Rattle.page_text.specs.Texts.{text_of}
 use Rattle.receiver.specs.Heard.{heard, with_text}
 use Rattle.receiver.specs.Listeners.{Listener, is_one_of}
-use Rattle.receiver.specs.Receivers.{has_in}
+use Rattle.receiver.specs.Receivers.{has_in, numbers_with}
+use Rattle.receiver.specs.declared.ready.Ready.{Ready}
 use Rattle.receiver.specs.Shown.{has_of, shown}
+use Rattle.wires.specs.Written.{Puts, Written}
 
 -- the printed line of a page
 abbrev pub page_line : Page → List ℕ
@@ -53,3 +56,9 @@ pairs_heard receivers bits = shown (has_of receivers) (pages_heard (concat recei
 -- what these receivers print of the bits
 abbrev pub play_lines : List (List ℕ) → List Bool → List ℕ
 play_lines receivers = lines_heard (is_one_of (concat receivers)) (has_of receivers)
+
+-- The lines of the page that the group has complete were put, with this text of it.
+pub record ShowsReady {T E : Type 0} (group : Listener) (page : Ready) (old new : Written ℕ) (result : Result T E) : Type 0 where
+  pub text : List ℕ
+  pub text_is : IfSome group.ready (λ p. text ≡ text_of p.function p.groups)
+  pub put : Puts old new (lines_for page.capcode page.function text (numbers_with (has_in group.holders) page.capcode)) result

@@ -1,11 +1,11 @@
 //! The commands `play` and `show`: what is heard in bits, as pages and as a table.
 
-ghost use Rattle.std.specs.Prelude.{◌≡◌, ◌≤◌, ◌++◌, [], length};
+ghost use Rattle.std.specs.Prelude.{◌≡◌, ◌≤◌, ◌++◌, [], IsSome, length};
 ghost use Rattle.page_text.specs.Line.{line_of};
 ghost use Rattle.receiver.specs.Listeners.{StandsFor};
 ghost use Rattle.receiver.specs.Receivers.{has_in, numbers_with};
 ghost use Rattle.listening.specs.Listening.{HasListened, OutWell};
-ghost use Rattle.listening.specs.PageLines.{group_lines, lines_for, number_text};
+ghost use Rattle.listening.specs.PageLines.{ShowsReady, group_lines, lines_for, number_text};
 ghost use Rattle.wires.specs.Written.{Puts};
 ghost use Rattle.listening.specs.Table.{table_of};
 
@@ -33,10 +33,19 @@ impl Listener for Group {
         let Some(page) = self.feed_piece(piece, &mut steps) else {
             return Ok(());
         };
-        let mut text = [0; LONGEST_READ];
-        let length = self.text(&mut text);
-        show_page(self, &page, &text[..length], out)
+        show_ready(self, &page, out)
     }
+}
+
+/// Puts the lines of the page that the group has complete. Its text lies here, and not in `hear`, which is entered for every piece.
+#[inline(never)]
+fn show_ready<O: Sink>(group: &Group, page: &Ready, out: &mut O) -> Result<(), Failed>
+    requires { IsSome group.now.ready }
+    ensures { ShowsReady group.now page.now (O.state out.old) (O.state out.new) result }
+{
+    let mut text = [0; LONGEST_READ];
+    let length = group.text(&mut text);
+    show_page(group, page, &text[..length], out)
 }
 
 /// Puts the line of a page for each receiver of the group that has its capcode.

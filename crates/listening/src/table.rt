@@ -10,7 +10,7 @@ ghost use Rattle.listening.specs.Table.{batch_line as batch_line_of, hex_digits 
 use crate::listening::Listener;
 use arrayvec::ArrayVec;
 use bch31::correct;
-use codeword::{IDLE, WordKind, kind};
+use codeword::{IDLE, SLOTS, WordKind, kind, number_in_slot};
 use itoa::Buffer;
 use page_text::lines::{digits, hex_digit};
 use receiver::front::{Front, FrontEvent};
@@ -79,7 +79,7 @@ fn batch_line(count: u64) -> Line
 
 /// The line of a slot.
 fn slot_line(place: u32, word: u32) -> Line
-    requires { place < 16 }
+    requires { place < SLOTS }
     ensures { result.items ≡ slot_line_of place word }
 {
     let mut line = Line::new();
@@ -94,7 +94,7 @@ fn slot_line(place: u32, word: u32) -> Line
 
 /// Appends what a word says in a slot.
 fn push_word(place: u32, word: u32, line: &mut Line)
-    requires place { place < 16 }
+    requires place { place < SLOTS }
     requires room { array_vec_len line.old + MOST_SAID ≤ LINE }
     ensures items { line.new.items ≡ line.old.items ++ word_text place word (fix_of word) }
     ensures few { array_vec_len line.new ≤ array_vec_len line.old + MOST_SAID }
@@ -112,7 +112,7 @@ fn push_word(place: u32, word: u32, line: &mut Line)
 
 /// Appends what a word carries in a slot.
 fn push_kind(place: u32, kind: Option<WordKind>, line: &mut Line)
-    requires place { place < 16 }
+    requires place { place < SLOTS }
     requires small { IfSome kind IsSmall }
     requires room { array_vec_len line.old + MOST_SAID ≤ LINE }
     ensures items { line.new.items ≡ line.old.items ++ kind_text place kind }
@@ -124,7 +124,7 @@ fn push_kind(place: u32, kind: Option<WordKind>, line: &mut Line)
     match kind {
         WordKind::Address { high, function } => {
             push_all(b"address ", line);
-            push_all(&digits(8 * high + place / 2), line);
+            push_all(&digits(number_in_slot(high, place)), line);
             push_all(&[b' ', function.letter()], line);
         }
         WordKind::Message { group } => {

@@ -1,4 +1,4 @@
-use Rattle.std.proofs.Common.{ℕ, List, take, subst}
+use Rattle.std.proofs.Common.{ℕ, List, subst}
 use Rattle.wires.specs.Pieces.{taken_of}
 use Rattle.wires.specs.Written.{Puts}
 use Rattle.receiver.specs.Receivers.{has_in, numbers_with}
@@ -14,11 +14,11 @@ returns-in_default-clause-prints g c = λ bits lt h.
 
 pub returns-clause-prints : goal.returns-clause-prints
 returns-clause-prints g c = λ bits lt h.
-    prints_whole (group_lines c.args.self.now) bits c.args.piece.now c.feed_piece.new.piece (g.O.Sink.state c.args.out.now) (g.O.Sink.state c.show_page.new.out) c.show_page.result
+    prints_whole (group_lines c.args.self.now) bits c.args.piece.now c.feed_piece.new.piece (g.O.Sink.state c.args.out.now) (g.O.Sink.state c.show_ready.new.out) c.show_ready.result
     (group_lines-grow c.args.self.now) c.feed_piece.ensures.whole
-    (prints_page c.args.self.now bits (taken_of c.args.piece.now c.feed_piece.new.piece) _ c.feed_piece.result c.in-Some.page c.text-length.result c.text-length.new.into (g.O.Sink.state c.args.out.now)
-    (g.O.Sink.state c.show_page.new.out) c.show_page.result
-    c.in-Some.is c.feed_piece.ensures.answer (c.feed_piece.ensures.page bits h) c.text-length.ensures.text
-    (subst (λ (holders : List (ℕ × ℕ)). Puts (g.O.Sink.state c.args.out.now) (g.O.Sink.state c.show_page.new.out)
-    (lines_for c.in-Some.page.capcode c.in-Some.page.function (take c.text-length.result c.text-length.new.into) (numbers_with (has_in holders) c.in-Some.page.capcode)) c.show_page.result)
-    c.feed_piece.ensures.holders c.show_page.ensures))
+    (prints_page c.args.self.now bits (taken_of c.args.piece.now c.feed_piece.new.piece) _ c.feed_piece.result c.in-Some.page c.show_ready.ensures.text (g.O.Sink.state c.args.out.now)
+    (g.O.Sink.state c.show_ready.new.out) c.show_ready.result
+    c.in-Some.is c.feed_piece.ensures.answer (c.feed_piece.ensures.page bits h) c.show_ready.ensures.text_is
+    (subst (λ (holders : List (ℕ × ℕ)). Puts (g.O.Sink.state c.args.out.now) (g.O.Sink.state c.show_ready.new.out)
+    (lines_for c.in-Some.page.capcode c.in-Some.page.function c.show_ready.ensures.text (numbers_with (has_in holders) c.in-Some.page.capcode)) c.show_ready.result)
+    c.feed_piece.ensures.holders c.show_ready.ensures.put))
