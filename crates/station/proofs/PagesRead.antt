@@ -8,7 +8,7 @@ use Rattle.tap_entry.specs.declared.faults.PagesFault.TheVariants as Pages
 use Rattle.wires.specs.Files.{Files}
 use Rattle.wires.specs.Line.{Line}
 use Rattle.wires.specs.Written.{Written}
-use Rattle.station.specs.declared.outcomes.Outcome.TheVariants.{Ended, Misread}
+use Rattle.station.specs.declared.outcomes.Outcome.TheVariants.{Ended}
 use Rattle.endings.specs.declared.statuses.Status.{Status}
 use Rattle.endings.specs.declared.statuses.Status.TheVariants.{FileFault, Memory}
 use Rattle.calling.specs.Calls.{HasSent}

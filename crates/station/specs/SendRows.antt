@@ -1,5 +1,5 @@
 -- The command `send`, from its pages on.
-use Rattle.std.specs.Prelude.{◌≡◌, ℕ, List, IsTrue}
+use Rattle.std.specs.Prelude.{ℕ, List, IsTrue}
 use Rattle.tap_entry.specs.PagesFile.{IsFile, IsFileRefused, FileContent}
 use Rattle.tap_entry.specs.declared.faults.PagesFault.{PagesFault}
 use Rattle.tap_entry.specs.declared.faults.PagesFault.TheVariants as Pages
