@@ -4,6 +4,7 @@
 //! |---|---|
 //! | `characters` | characters by name, and the sizes of a session, of a password and of an id |
 //! | `kept` | a front of what comes, and a count, each up to a bound |
+#![tactic(auto)]
 
 pub mod characters;
 pub mod kept;
