@@ -3,26 +3,31 @@
 
     docs/gate_times.py [--write] [WORD ..]
 
-The words are those of `rt ci`: `--anew` measures everything, where work kept from earlier runs would cost nothing. What `rt ci` prints
-goes to the error stream, each line with the minutes and seconds since the start, and the table to the output. With --write the table
-also replaces the one in docs/performance.md, between the lines `<!-- table gate -->` and `<!-- end -->`. The status is that of `rt ci`.
+The words are those of `rt ci`: names of crates, or `--anew`, with which all is proved again. What `rt ci` prints goes to the error
+stream, each line with the minutes and seconds since the start, and the table to the output. With --write the table also replaces the one
+in docs/performance.md, between the lines `<!-- table gate -->` and `<!-- end -->`. The status is that of `rt ci`.
+
+`rt ci` keeps what it proved, and a crate that was kept costs nothing. So the times of a crate are noted when it is proved, in the file
+that the variable GATE_TIMES names, or else in `gate_times.json` in the folder for temporary files. The table shows what is noted there.
 
 Crates are proved side by side, so a time is processor time: what the prover's processes had used when they were last looked at, which is
 done five times a second. A process that ends between two looks is counted short by as much. The prover's processes are told apart by
-their words: the crate's name stands after `--crate-name`, tests are built with `--test`, and edits are tried in folders `rt-edit-*`. The
-clock of a crate is when `rt ci` said that it is proved.
+their words: the crate's name stands after `--crate-name`, tests are built with `--test`, and edits are tried in folders `rt-edit-*`.
 """
 
+import json
 import os
 import re
 import subprocess
 import sys
+import tempfile
 import threading
 import time
 from pathlib import Path
 
 TOP = Path(__file__).resolve().parent.parent
 DOCUMENT = TOP / "docs" / "performance.md"
+TIMES = Path(os.environ.get("GATE_TIMES") or Path(tempfile.gettempdir()) / "gate_times.json")
 LOOK = 0.2  # seconds
 KINDS = ("proofs", "tests", "edits")
 MARKED = re.compile(r"(<!-- table gate -->\n\n).*?(\n<!-- end -->)", re.S)
@@ -83,19 +88,24 @@ def crates():
     return [line.split(":")[0].split()[0] for line in (TOP / "crates.txt").read_text().splitlines() if ":" in line and not line.startswith("#")]
 
 
-def table(sums, proved, kept, edits, whole):
+def noted():
+    """The times that earlier runs noted, by crate."""
+    return json.loads(TIMES.read_text()) if TIMES.exists() else {}
+
+
+def table(times):
     def cell(seconds):
         return f"{seconds:,.0f}" if seconds >= 0.5 else "–"
 
-    rows = ["| crate | proofs, s | tests, s | edits | edits, s | proved at |", "|---|---|---|---|---|---|"]
-    totals = dict.fromkeys(KINDS, 0.0)
-    for name in (name for name in crates() if name in {*sums, *proved, *kept, *edits}):
-        used = sums.get(name, dict.fromkeys(KINDS, 0.0))
-        totals = {kind: totals[kind] + used[kind] for kind in KINDS}
-        at = "kept" if name in kept else clock(proved[name]) if name in proved else "–"
-        rows.append(f"| `{name}` | {cell(used['proofs'])} | {cell(used['tests'])} | {edits.get(name, '–')} | {cell(used['edits'])} | {at} |")
-    rows.append(f"| all | {cell(totals['proofs'])} | {cell(totals['tests'])} | {sum(edits.values()) or '–'} | {cell(totals['edits'])} | {clock(whole)} |")
-    return "\n".join(rows) + "\n"
+    rows = ["| crate | proofs, s | tests, s | edits | edits, s |", "|---|---|---|---|---|"]
+    totals = dict.fromkeys((*KINDS, "count"), 0)
+    for name in (name for name in crates() if name in times):
+        used = times[name] | {"count": len(list((TOP / "crates" / name / "must-fail").glob("*.edit")))}
+        totals = {kind: totals[kind] + used[kind] for kind in totals}
+        rows.append(f"| `{name}` | {cell(used['proofs'])} | {cell(used['tests'])} | {used['count'] or '–'} | {cell(used['edits'])} |")
+    rows.append(f"| all | {cell(totals['proofs'])} | {cell(totals['tests'])} | {totals['count']} | {cell(totals['edits'])} |")
+    minutes = sum(totals[kind] for kind in KINDS) / 60
+    return "\n".join(rows) + f"\n\n{minutes:.0f} minutes of processor time in all.\n"
 
 
 def machine():
@@ -116,21 +126,23 @@ def main():
 
     watcher = threading.Thread(target=watching)
     watcher.start()
-    proved, kept, edits, failed = {}, set(), {}, []
+    proved = set()
     for line in gate.stdout:
         at = time.monotonic() - start
         print(f"{clock(at):>6} {line}", end="", file=sys.stderr, flush=True)
         if match := re.match(r"rt: (\w+) proved$", line):
-            proved[match[1]] = at
-        elif match := re.match(r"rt: (\w+) is kept: ", line):
-            kept.add(match[1])
-        elif match := re.match(r"rt: must-fail (\w+)/", line):
-            edits[match[1]] = edits.get(match[1], 0) + 1
+            proved.add(match[1])
     status = gate.wait()
-    whole = time.monotonic() - start
     ended.set()
     watcher.join()
-    text = table(watch.sums(), proved, kept, edits, whole)
+    times = noted()
+    for name, used in watch.sums().items():
+        if name in proved:
+            times[name] = used
+        elif name in times:  # edits that are new of a crate that was kept
+            times[name]["edits"] += used["edits"]
+    TIMES.write_text(json.dumps(times))
+    text = table(times)
     print(f"{text}\n{line_of_machine}")
     if status == 0 and "--write" in words:
         DOCUMENT.write_text(MARKED.sub(lambda mark: f"{mark[1]}{text}\n{line_of_machine}\n{mark[2]}", DOCUMENT.read_text()))
