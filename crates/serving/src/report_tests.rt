@@ -83,7 +83,8 @@ fn a_report_is_put_as_one_line(rt: HostRuntime) -> Result<(), Fail> {
     for (number, end, report, line) in &ROWS {
         let mut out = MemorySink::new(rt.alloc(), 200, &[2])?;
         let put = put_report(*number, *end, *report, &mut out);
-        assert!(rt; put.is_ok() && out.bytes() == *line);
+        assert!(rt; put.is_ok(), "session {number}");
+        assert_eq!(rt; out.bytes(), *line, "session {number}");
     }
     Ok(())
 }

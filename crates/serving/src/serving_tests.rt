@@ -15,6 +15,7 @@ const UNKNOWN: &[u8] = b"\r\x1BPG1\r\x02999\rX\r\x03122\r\x04\r";
 /// then the status, how many bytes of the transmissions the file has, and the lines. The calls of a wire with one page are `listen`,
 /// `next`, a `hear`, three times `say`, a `hear`, `say`, and `hang_up`. Those of the shelf are `fresh`, and for each page two `append`.
 struct Case {
+    name: &'static str,
     heard: &'static [&'static [u8]],
     count: u32,
     wire: &'static [u64],
@@ -27,6 +28,7 @@ struct Case {
 
 const CASES: [Case; 12] = [
     Case {
+        name: "a page",
         heard: &[ONE_PAGE],
         count: 1,
         wire: &[],
@@ -37,6 +39,7 @@ const CASES: [Case; 12] = [
         lines: b"session 1 ended pages 1 continued 0 nak 0 body 0 content 0 form 0 unknown 0 text 0 room 0 wrong 0\n",
     },
     Case {
+        name: "two sessions of a page each",
         heard: &[ONE_PAGE, ONE_PAGE],
         count: 2,
         wire: &[],
@@ -47,6 +50,7 @@ const CASES: [Case; 12] = [
         lines: b"session 1 ended pages 1 continued 0 nak 0 body 0 content 0 form 0 unknown 0 text 0 room 0 wrong 0\nsession 2 ended pages 1 continued 0 nak 0 body 0 content 0 form 0 unknown 0 text 0 room 0 wrong 0\n",
     },
     Case {
+        name: "more connections are wanted than come",
         heard: &[ONE_PAGE, UNKNOWN],
         count: 5,
         wire: &[],
@@ -57,6 +61,7 @@ const CASES: [Case; 12] = [
         lines: b"session 1 ended pages 1 continued 0 nak 0 body 0 content 0 form 0 unknown 0 text 0 room 0 wrong 0\nsession 2 ended pages 0 continued 0 nak 0 body 0 content 0 form 0 unknown 1 text 0 room 0 wrong 0\n",
     },
     Case {
+        name: "fewer are wanted than come",
         heard: &[UNKNOWN, ONE_PAGE],
         count: 1,
         wire: &[],
@@ -67,6 +72,7 @@ const CASES: [Case; 12] = [
         lines: b"session 1 ended pages 0 continued 0 nak 0 body 0 content 0 form 0 unknown 1 text 0 room 0 wrong 0\n",
     },
     Case {
+        name: "the line is lost in the session",
         heard: &[ONE_PAGE],
         count: 1,
         wire: &[7],
@@ -77,6 +83,7 @@ const CASES: [Case; 12] = [
         lines: b"session 1 lost pages 1 continued 0 nak 0 body 0 content 0 form 0 unknown 0 text 0 room 0 wrong 0\n",
     },
     Case {
+        name: "no hanging up",
         heard: &[ONE_PAGE],
         count: 1,
         wire: &[9],
@@ -87,6 +94,7 @@ const CASES: [Case; 12] = [
         lines: b"session 1 ended pages 1 continued 0 nak 0 body 0 content 0 form 0 unknown 0 text 0 room 0 wrong 0\n",
     },
     Case {
+        name: "no listening",
         heard: &[ONE_PAGE],
         count: 1,
         wire: &[1],
@@ -97,6 +105,7 @@ const CASES: [Case; 12] = [
         lines: b"",
     },
     Case {
+        name: "no second connection",
         heard: &[ONE_PAGE],
         count: 2,
         wire: &[10],
@@ -107,6 +116,7 @@ const CASES: [Case; 12] = [
         lines: b"session 1 ended pages 1 continued 0 nak 0 body 0 content 0 form 0 unknown 0 text 0 room 0 wrong 0\n",
     },
     Case {
+        name: "the file is not made fresh",
         heard: &[ONE_PAGE],
         count: 1,
         wire: &[],
@@ -117,6 +127,7 @@ const CASES: [Case; 12] = [
         lines: b"",
     },
     Case {
+        name: "no preamble is appended",
         heard: &[ONE_PAGE],
         count: 1,
         wire: &[],
@@ -127,6 +138,7 @@ const CASES: [Case; 12] = [
         lines: b"",
     },
     Case {
+        name: "no batch is appended",
         heard: &[ONE_PAGE],
         count: 1,
         wire: &[],
@@ -137,6 +149,7 @@ const CASES: [Case; 12] = [
         lines: b"",
     },
     Case {
+        name: "the report line is not put",
         heard: &[ONE_PAGE],
         count: 1,
         wire: &[],
@@ -169,6 +182,7 @@ fn airs(alloc: Global, size: usize) -> Result<Vec<u8>, AllocError> {
 #[test]
 fn connections_are_served_sent_and_reported(rt: HostRuntime) -> Result<(), Fail> {
     for case in &CASES {
+        let name = case.name;
         let mut station = station(rt.alloc(), TWO)?;
         let mut heard = Vec::new(rt.alloc());
         for bytes in case.heard {
@@ -185,15 +199,13 @@ fn connections_are_served_sent_and_reported(rt: HostRuntime) -> Result<(), Fail>
             case.count,
             &mut out,
         );
-        assert_eq!(rt; status, case.status);
-        assert_eq!(rt; out.bytes(), case.lines);
-        match (shelf.bytes("air.bin"), case.file) {
-            (None, None) => {}
-            (Some(bytes), Some(size)) => {
-                let air = airs(rt.alloc(), size)?;
-                assert_eq!(rt; bytes, air.as_slice());
-            }
-            _ => return Err(Fail::from("the file is there, or it is not")),
+        assert_eq!(rt; status, case.status, "{name}");
+        assert_eq!(rt; out.bytes(), case.lines, "{name}");
+        let air = shelf.bytes("air.bin");
+        assert_eq!(rt; air.map(|bytes| bytes.len()), case.file, "{name}");
+        if let Some(bytes) = air {
+            let whole = airs(rt.alloc(), bytes.len())?;
+            assert_eq!(rt; bytes, whole.as_slice(), "{name}");
         }
     }
     Ok(())

@@ -20,9 +20,10 @@ const HEARD: &[u8] = b"ID\nGO\nACK\nEND\n---\n01 0000008 A HELLO\n";
 /// So many bits are counted at most.
 const MOST: u32 = 2000;
 
-/// The input, how many bytes of 0 the noise has, the calls of its source that fail, the status, what is printed, and how many bits of
+/// What a row shows, the input, how many bytes of 0 the noise has, the calls of its source that fail, the status, what is printed, and how many bits of
 /// the noise are left, where the reads behind don't fail. A page is transmitted in 140 bytes, and the source gives 50 at a time.
 type Row = (
+    &'static str,
     &'static [u8],
     usize,
     &'static [u64],
@@ -32,11 +33,44 @@ type Row = (
 );
 
 const ROWS: [Row; 8] = [
-    (ONE_PAGE, 150, &[], Status::Done, HEARD, Some(80)),
-    (ONE_PAGE, 141, &[], Status::Done, HEARD, Some(8)),
-    (ONE_PAGE, 140, &[], Status::Done, HEARD, Some(0)),
-    (ONE_PAGE, 70, &[], Status::Done, HEARD, Some(0)),
     (
+        "more noise than air",
+        ONE_PAGE,
+        150,
+        &[],
+        Status::Done,
+        HEARD,
+        Some(80),
+    ),
+    (
+        "a byte more",
+        ONE_PAGE,
+        141,
+        &[],
+        Status::Done,
+        HEARD,
+        Some(8),
+    ),
+    (
+        "as much noise as air",
+        ONE_PAGE,
+        140,
+        &[],
+        Status::Done,
+        HEARD,
+        Some(0),
+    ),
+    (
+        "half as much",
+        ONE_PAGE,
+        70,
+        &[],
+        Status::Done,
+        HEARD,
+        Some(0),
+    ),
+    (
+        "a read that fails",
         ONE_PAGE,
         150,
         &[2],
@@ -44,9 +78,33 @@ const ROWS: [Row; 8] = [
         b"ID\nGO\nACK\nEND\n---\n",
         Some(800),
     ),
-    (NO_PAGE, 150, &[], Status::Done, NOTHING_HEARD, Some(1200)),
-    (NO_PAGE, 0, &[], Status::Done, NOTHING_HEARD, Some(0)),
-    (NO_PAGE, 150, &[1], Status::Done, NOTHING_HEARD, None),
+    (
+        "no page",
+        NO_PAGE,
+        150,
+        &[],
+        Status::Done,
+        NOTHING_HEARD,
+        Some(1200),
+    ),
+    (
+        "no page and no noise",
+        NO_PAGE,
+        0,
+        &[],
+        Status::Done,
+        NOTHING_HEARD,
+        Some(0),
+    ),
+    (
+        "no page and a read that would fail",
+        NO_PAGE,
+        150,
+        &[1],
+        Status::Done,
+        NOTHING_HEARD,
+        None,
+    ),
 ];
 
 /// How many bits are left, at most so many as are counted. None where a read fails.
@@ -66,7 +124,7 @@ fn a_noise_is_read_as_far_as_the_transmission(rt: HostRuntime) -> Result<(), Fai
     let Some(capcode) = Capcode::of(8) else {
         return Err(Fail::from("the capcode isn't usable"));
     };
-    for (input, noise, failing, status, printed, left) in &ROWS {
+    for (name, input, noise, failing, status, printed, left) in &ROWS {
         let mut station = station(rt.alloc(), TWO)?;
         let Ok(mut group) = Group::new(rt.alloc(), &[(1, capcode)]) else {
             return Err(Fail::from("there is no memory"));
@@ -76,9 +134,9 @@ fn a_noise_is_read_as_far_as_the_transmission(rt: HostRuntime) -> Result<(), Fai
         let mut input = MemorySource::new(rt.alloc(), *input, 7, &[])?;
         let mut out = MemorySink::new(rt.alloc(), 100, &[])?;
         let end = station.trial(&mut input, &mut noise, &mut group, &mut out);
-        assert_eq!(rt; end, *status);
-        assert_eq!(rt; out.bytes(), *printed);
-        assert_eq!(rt; bits_left(&mut noise), *left);
+        assert_eq!(rt; end, *status, "{name}");
+        assert_eq!(rt; out.bytes(), *printed, "{name}");
+        assert_eq!(rt; bits_left(&mut noise), *left, "{name}");
     }
     Ok(())
 }

@@ -20,21 +20,24 @@ subscriber = [
 ]
 ";
 
-/// What is heard, what is said behind the greeting, and the numbers of pages and of refused lines.
-const ROWS: [(&[u8], &[u8], u32, u32); 3] = [
+/// What a row shows, what is heard, what is said behind the greeting, and the numbers of pages and of refused lines.
+const ROWS: [(&str, &[u8], &[u8], u32, u32); 3] = [
     (
+        "a page",
         b"PAGE 5551234\r\nMESS HELLO\r\nSEND\r\nQUIT\r\n",
         b"250 OK\r\n250 OK\r\n250 OK\r\n221 bye\r\n",
         1,
         0,
     ),
     (
+        "refusals and a text that does not fit",
         b"SEND\r\npage 999\r\nPAGE 5550002\r\nMESS abc\r\nSEND\r\nSEND\r\nQUIT\r\n",
         b"503 incomplete\r\n550 pager\r\n250 OK\r\n250 OK\r\n554 text\r\n503 incomplete\r\n221 bye\r\n",
         0,
         4,
     ),
     (
+        "LF alone, any case, a second PAGE",
         b"PAGER 15\nPAGE 8\nSEND\n\nRESET x\nquit\nSEND\n",
         b"250 OK\r\n503 already entered\r\n250 OK\r\n500 command\r\n500 command\r\n221 bye\r\n",
         1,
@@ -81,15 +84,15 @@ fn sessions_are_answered(rt: HostRuntime) -> Result<(), Fail> {
     let settings = settings(alloc, SIX)?;
     let mut pool = pool(alloc, 64)?;
     let mut session = Snpp::new();
-    for (heard, replies, pages, refused) in ROWS {
+    for (name, heard, replies, pages, refused) in ROWS {
         session.begin();
         pool.clear();
         let said = said(alloc, &mut session, &settings, &mut pool, heard)?;
-        assert_eq!(rt; said.as_slice(), replies);
+        assert_eq!(rt; said.as_slice(), replies, "{name}");
         let report = session.report();
-        assert_eq!(rt; report.pages, pages);
-        assert_eq!(rt; report.refused, refused);
-        assert_eq!(rt; pool.count(), pages);
+        assert_eq!(rt; report.pages, pages, "{name}");
+        assert_eq!(rt; report.refused, refused, "{name}");
+        assert_eq!(rt; pool.count(), pages, "{name}");
     }
     Ok(())
 }

@@ -16,8 +16,6 @@
 //! `serving` (the station), and `endings` (how a run ends); `near` and `both_ends` have the laws of the air and of the line.
 #![tactic(auto)]
 
-#[cfg(test)]
-mod air_tests;
 mod capcodes;
 mod commands;
 mod files;

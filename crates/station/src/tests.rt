@@ -24,6 +24,6 @@ const CODES: [(Status, u8); 15] = [
 #[test]
 fn codes_of_statuses(rt: HostRuntime) {
     for (status, code) in CODES {
-        assert_eq!(rt; status.code(), code);
+        assert_eq!(rt; status.code(), code, "{status:?}");
     }
 }

@@ -112,15 +112,19 @@ fn documents_are_refused_by_their_form(rt: HostRuntime) {
 
 #[test]
 fn texts_that_are_no_documents_are_refused(rt: HostRuntime) {
-    let files: [&[u8]; 5] = [
-        b"cells =",
-        b"cells = 64\ncells = 64",
-        b"cells = 64\npassword = \"abcdef",
-        b"cells = 64 # \xFF",
-        b"cells = 9223372036854775808",
+    let files: [(&str, &[u8]); 5] = [
+        ("no value", b"cells ="),
+        ("a key twice", b"cells = 64\ncells = 64"),
+        ("no end of a string", b"cells = 64\npassword = \"abcdef"),
+        ("no character", b"cells = 64 # \xFF"),
+        ("a number of 64 bits", b"cells = 9223372036854775808"),
     ];
-    for file in files {
-        assert_eq!(rt; fault(rt.alloc(), file), Some(SettingsFault::NotToml));
+    for (name, file) in files {
+        assert_eq!(rt;
+            fault(rt.alloc(), file),
+            Some(SettingsFault::NotToml),
+            "{name}"
+        );
     }
 }
 
@@ -306,4 +310,40 @@ fn password_is_kept(rt: HostRuntime) {
         }
         Err(_) => assert!(rt; false, "the file is refused"),
     }
+}
+
+/// Numbers beside those that no capcode may have, and whether they are capcodes.
+const CAPCODES: [(i64, bool); 16] = [
+    (0, true),
+    (8, true),
+    (2_007_663, true),
+    (2_007_664, false),
+    (2_007_671, false),
+    (2_007_672, true),
+    (2_045_055, true),
+    (2_045_056, false),
+    (2_045_063, false),
+    (2_045_064, true),
+    (2_097_151, true),
+    (2_097_152, false),
+    (4_294_967_295, false),
+    (4_294_967_304, false),
+    (-1, false),
+    (-8, false),
+];
+
+#[test]
+fn an_entry_has_a_usable_capcode(rt: HostRuntime) -> Result<(), Fail> {
+    for (number, usable) in CAPCODES {
+        let file = format!(in rt.alloc();
+            "cells = 1\nsubscriber = [{{id = \"1\", capcode = {number}, class = \"alpha\"}}]"
+        )?;
+        let wanted = if usable {
+            None
+        } else {
+            Some(SettingsFault::Capcode(1))
+        };
+        assert_eq!(rt; fault(rt.alloc(), file.as_bytes()), wanted, "{number}");
+    }
+    Ok(())
 }

@@ -164,32 +164,37 @@ fn fields_have_values_or_faults(rt: HostRuntime) {
 
 #[test]
 fn values_are_spelled(rt: HostRuntime) {
-    let table: [(&[u8], &[u8]); 3] = [
-        (b"", b""),
-        (b"A\rB~", b"A\x1AMB~"),
-        (b"\x00\x1F @", b"\x1A@\x1A_ @"),
+    let table: [(&str, &[u8], &[u8]); 3] = [
+        ("no character", b"", b""),
+        ("CR", b"A\rB~", b"A\x1AMB~"),
+        ("NUL and US", b"\x00\x1F @", b"\x1A@\x1A_ @"),
     ];
-    for (value, field) in table {
+    for (name, value, field) in table {
         let mut buffer = [0; 8];
         let size = escape_into(value, &mut buffer);
-        assert_eq!(rt; &buffer[..size], field);
+        assert_eq!(rt; &buffer[..size], field, "{name}");
     }
 }
 
 #[test]
 fn blocks_are_written_whole(rt: HostRuntime) -> Result<(), Fail> {
-    let table: [(&[u8], End, &[u8]); 4] = [
-        (b"123\rABC\r", End::Etx, b"\x02123\rABC\r\x0317;\r"),
-        (b"A", End::Us, b"\x02A\x1F062\r"),
-        (b"", End::Etb, b"\x02\x17019\r"),
-        (b"\x7F", End::Etx, b"\x02\x7F\x03084\r"),
+    let table: [(&str, &[u8], End, &[u8]); 4] = [
+        (
+            "two fields",
+            b"123\rABC\r",
+            End::Etx,
+            b"\x02123\rABC\r\x0317;\r",
+        ),
+        ("a part", b"A", End::Us, b"\x02A\x1F062\r"),
+        ("no character", b"", End::Etb, b"\x02\x17019\r"),
+        ("DEL", b"\x7F", End::Etx, b"\x02\x7F\x03084\r"),
     ];
-    for (body, end, block) in table {
+    for (name, body, end, block) in table {
         let mut sink = MemorySink::new(rt.alloc(), 20, &[])?;
-        assert!(rt; put_block(body, end, &mut sink).is_ok());
-        assert_eq!(rt; sink.bytes(), block);
+        assert!(rt; put_block(body, end, &mut sink).is_ok(), "{name}");
+        assert_eq!(rt; sink.bytes(), block, "{name}");
         let mut full = MemorySink::new(rt.alloc(), 4, &[])?;
-        assert!(rt; put_block(body, end, &mut full).is_err());
+        assert!(rt; put_block(body, end, &mut full).is_err(), "{name}");
     }
     Ok(())
 }

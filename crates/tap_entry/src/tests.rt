@@ -165,7 +165,7 @@ fn naks_are_counted_anew_for_each_block(rt: HostRuntime) -> Result<(), Fail> {
     let mut stage = Stage::Calling(Calling::new(None));
     for byte in b"ID=\x1B[p\r\x15\r\x15\r\x06\r\x15\r\x15\r\x06" {
         stage = talk.hear(stage, *byte, &pages)?;
-        assert!(rt; talk.outcomes.is_empty());
+        assert!(rt; talk.outcomes.is_empty(), "byte {byte}");
     }
     stage = talk.hear(stage, b'\r', &pages)?;
     assert!(rt; !is_over(&stage));
@@ -192,11 +192,10 @@ fn a_block_fails_where_its_sink_does(rt: HostRuntime) -> Result<(), Fail> {
     let pages = pages(rt.alloc(), b"PG1\n999 X\n")?;
     let mut sink = MemorySink::new(rt.alloc(), 40, &[1])?;
     let client = logged_on().expect(&rt, "a client that is logged on");
-    if pages.count() > 0 {
-        let client = client.start(pages.id(0), pages.text(0));
-        assert_eq!(rt; client.put(&mut sink), Err(Failed));
-        assert_eq!(rt; client.put(&mut sink), Ok(()));
-    }
+    assert!(rt; pages.count() > 0);
+    let client = client.start(pages.id(0), pages.text(0));
+    assert_eq!(rt; client.put(&mut sink), Err(Failed));
+    assert_eq!(rt; client.put(&mut sink), Ok(()));
     assert!(rt; sink.bytes() == b"\x02999\rX\r\x03122\r".as_slice());
     Ok(())
 }

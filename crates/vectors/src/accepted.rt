@@ -12,6 +12,7 @@ subscriber = [
 
 pub(crate) const ACCEPTED: [Row; 13] = [
     Row {
+        name: "a page",
         settings: S1,
         heard: &[(HELLO_SESSION, 0)],
         said: b"ID=\x06\r\x1B[p\r\x06\r\x1B\x04\r",
@@ -21,6 +22,7 @@ pub(crate) const ACCEPTED: [Row; 13] = [
         pages: b"01 0000008 A HELLO\n",
     },
     Row {
+        name: "a page to another receiver",
         settings: S1,
         heard: &[(HELLO_SESSION, 0)],
         said: b"ID=\x06\r\x1B[p\r\x06\r\x1B\x04\r",
@@ -30,6 +32,7 @@ pub(crate) const ACCEPTED: [Row; 13] = [
         pages: b"",
     },
     Row {
+        name: "a wrong sum, and the block again",
         settings: S1,
         heard: &[(
             b"\r\x1BPG1\r\x025551234\rHELLO\r\x032?=\r\x025551234\rHELLO\r\x032?<\r\x04\r",
@@ -42,6 +45,7 @@ pub(crate) const ACCEPTED: [Row; 13] = [
         pages: b"01 0000008 A HELLO\n",
     },
     Row {
+        name: "junk between blocks",
         settings: S1,
         heard: &[(
             b"\r\x1BPG1\rx\x02junk\x025551234\rHELLO\r\x032?<\r\x04y\x04\r",
@@ -54,6 +58,7 @@ pub(crate) const ACCEPTED: [Row; 13] = [
         pages: b"01 0000008 A HELLO\n",
     },
     Row {
+        name: "a last space, and the text without it",
         settings: S1,
         heard: &[(
             b"\r\x1BPG1\r\x025550002\r12 \r\x03203\r\x025550002\r12\r\x031>3\r\x04\r",
@@ -66,6 +71,7 @@ pub(crate) const ACCEPTED: [Row; 13] = [
         pages: b"01 0000009 N 12\n",
     },
     Row {
+        name: "no digit",
         settings: S1,
         heard: &[(b"\r\x1BPG1\r\x025550002\r\r\x03180\r\x04\r", 0)],
         said: b"ID=\x06\r\x1B[p\r\x06\r\x1B\x04\r",
@@ -75,6 +81,7 @@ pub(crate) const ACCEPTED: [Row; 13] = [
         pages: b"01 0000009 N \n",
     },
     Row {
+        name: "a text in two blocks, with SUB across",
         settings: S1,
         heard: &[(
             b"\r\x1BPG1\r\x025551234\rA\x1A\x1F1?2\r\x02MB\r\x030:1\r\x04\r",
@@ -87,6 +94,7 @@ pub(crate) const ACCEPTED: [Row; 13] = [
         pages: b"01 0000008 A A\\rB\n",
     },
     Row {
+        name: "no room for the second page",
         settings: SMALL,
         heard: &[
             (b"\r\x1BPG1\r\x025551234\r", 64),
@@ -99,6 +107,7 @@ pub(crate) const ACCEPTED: [Row; 13] = [
         pages: b"01 0000008 A AAAAAAAAAAAAAAAAAAAAAAAAAAAAAAAAAAAAAAAAAAAAAAAAAAAAAAAAAAAAAAAA\n",
     },
     Row {
+        name: "three tones",
         settings: S1,
         heard: &[(
             b"\r\x1BPG1\r\x0215\r\r\x03085\r\x028\r\r\x03057\r\x0216\r\r\x03086\r\x04\r",
@@ -111,6 +120,7 @@ pub(crate) const ACCEPTED: [Row; 13] = [
         pages: b"01 0000008 1 \n03 0000016 1 \n02 0000015 1 \n",
     },
     Row {
+        name: "three tones, two of one frame",
         settings: S1,
         heard: &[(
             b"\r\x1BPG1\r\x028\r\r\x03057\r\x028\r\r\x03057\r\x0216\r\r\x03086\r\x04\r",
@@ -123,6 +133,7 @@ pub(crate) const ACCEPTED: [Row; 13] = [
         pages: b"01 0000008 1 \n01 0000008 1 \n02 0000016 1 \n",
     },
     Row {
+        name: "a page in the last frame",
         settings: S1,
         heard: &[(b"\r\x1BPG1\r\x027\rA\r\x03097\r\x04\r", 0)],
         said: b"ID=\x06\r\x1B[p\r\x06\r\x1B\x04\r",
@@ -132,6 +143,7 @@ pub(crate) const ACCEPTED: [Row; 13] = [
         pages: b"02 0000015 A A\n",
     },
     Row {
+        name: "two tones in the last frame",
         settings: S1,
         heard: &[(
             b"\r\x1BPG1\r\x0215\r\r\x03085\r\x0215\r\r\x03085\r\x04\r",
@@ -144,6 +156,7 @@ pub(crate) const ACCEPTED: [Row; 13] = [
         pages: b"01 0000015 1 \n01 0000015 1 \n",
     },
     Row {
+        name: "400 characters, and 401",
         settings: S1,
         heard: &[
             (b"\r\x1BPG1\r\x025551234\r", 242),

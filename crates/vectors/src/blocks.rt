@@ -8,7 +8,7 @@ use tap_block::{End, Item, Scanner, sum};
 /// A block. Its body is a front, so many letters A, and a rest; then its end, and its sum as it is written.
 type Block = (&'static [u8], usize, &'static [u8], End, &'static [u8]);
 
-/// The worked sums, and those of bodies of 251 and 252 letters.
+/// The worked sums, and those of bodies of 251 and 252 letters. A failing test prints a block's place, counted from 0.
 const BLOCKS: [Block; 25] = [
     (b"123\rABC\r", 0, b"", End::Etx, b"17;"),
     (b"123\rABC", 0, b"", End::Etx, b"16>"),
@@ -68,10 +68,10 @@ fn is_silent(scanner: &mut Scanner, bytes: &[u8]) -> bool {
 
 #[test]
 fn sums_are_the_worked_ones(rt: HostRuntime) -> Result<(), Fail> {
-    for block in &BLOCKS {
+    for (k, block) in BLOCKS.iter().enumerate() {
         let (characters, behind) = characters(rt.alloc(), block)?;
         let whole = characters.get(..behind.wrapping_add(1)).unwrap_or(&[]);
-        assert_eq!(rt; sum(whole).as_slice(), block.4);
+        assert_eq!(rt; sum(whole).as_slice(), block.4, "block {k}");
     }
     Ok(())
 }
@@ -79,18 +79,22 @@ fn sums_are_the_worked_ones(rt: HostRuntime) -> Result<(), Fail> {
 /// Each block is read at its CR and not before, with its body, of which the first 250 characters are kept.
 #[test]
 fn worked_blocks_are_read(rt: HostRuntime) -> Result<(), Fail> {
-    for block in &BLOCKS {
+    for (k, block) in BLOCKS.iter().enumerate() {
         let (characters, behind) = characters(rt.alloc(), block)?;
         let body = characters.get(1..behind).unwrap_or(&[]);
         let mut scanner = Scanner::blocks();
-        assert!(rt; is_silent(&mut scanner, &characters));
+        assert!(rt; is_silent(&mut scanner, &characters), "block {k}");
         let read = Item::Block {
             end: block.3,
             sum_ok: true,
             length: body.len().min(251) as u32,
         };
-        assert_eq!(rt; scanner.feed(b'\r'), Some(read));
-        assert_eq!(rt; Some(scanner.body()), body.get(..body.len().min(250)));
+        assert_eq!(rt; scanner.feed(b'\r'), Some(read), "block {k}");
+        assert_eq!(rt;
+            Some(scanner.body()),
+            body.get(..body.len().min(250)),
+            "block {k}"
+        );
     }
     Ok(())
 }
@@ -98,15 +102,21 @@ fn worked_blocks_are_read(rt: HostRuntime) -> Result<(), Fail> {
 /// The last character of the sum is another, or has its parity bit.
 #[test]
 fn a_wrong_sum_is_told(rt: HostRuntime) -> Result<(), Fail> {
-    for block in &BLOCKS {
+    for (k, block) in BLOCKS.iter().enumerate() {
         for (turned, right) in [(0x01u8, false), (0x40, false), (0x80, true)] {
             let (mut characters, _) = characters(rt.alloc(), block)?;
             let last = characters.pop().unwrap_or(0);
             characters.push(last ^ turned)?;
             let mut scanner = Scanner::blocks();
-            assert!(rt; is_silent(&mut scanner, &characters));
+            assert!(rt;
+                is_silent(&mut scanner, &characters),
+                "block {k}, bits {turned:x}"
+            );
             let item = scanner.feed(b'\r');
-            assert!(rt; matches!(item, Some(Item::Block { sum_ok, .. }) if sum_ok == right));
+            assert!(rt;
+                matches!(item, Some(Item::Block { sum_ok, .. }) if sum_ok == right),
+                "block {k}, bits {turned:x}"
+            );
         }
     }
     Ok(())
@@ -125,7 +135,7 @@ fn a_wrong_trailer_ends_a_long_body(rt: HostRuntime) -> Result<(), Fail> {
         let mut characters = spelled(rt.alloc(), &[(b"\x02", *letters), (*behind, 0)])?;
         let last = characters.pop().unwrap_or(0);
         let mut scanner = Scanner::blocks();
-        assert!(rt; is_silent(&mut scanner, &characters));
+        assert!(rt; is_silent(&mut scanner, &characters), "{letters} letters");
         let item = scanner.feed(last);
         assert!(rt;
             matches!(item, Some(Item::Block { sum_ok: false, length, .. }) if length == *counted)

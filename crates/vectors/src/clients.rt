@@ -14,8 +14,9 @@ pub(crate) const HEARD: &[u8] = b"ID=\x06\r\x1B[p\r\x06\r\x1E\r\x1B\x04\r";
 /// The words that send them.
 pub(crate) const SEND: &[&str] = &["send", "127.0.0.1:7000", "pages.txt"];
 
-/// The pages file; what is heard; the status and its code, what is said, the lines of the pages, and the line about the status.
+/// What a row shows; the pages file; what is heard; the status and its code, what is said, the lines of the pages, and the line about the status.
 struct Row {
+    name: &'static str,
     pages: &'static [u8],
     heard: &'static [u8],
     status: Status,
@@ -27,6 +28,7 @@ struct Row {
 
 const ROWS: [Row; 6] = [
     Row {
+        name: "one sent, one abandoned",
         pages: TWO,
         heard: HEARD,
         status: Status::SomeUnsent,
@@ -36,6 +38,7 @@ const ROWS: [Row; 6] = [
         line: b"pocsag: some pages unsent\n",
     },
     Row {
+        name: "the logon is refused",
         pages: TWO,
         heard: b"ID=\x15\r\x15\r\x15\r",
         status: Status::LogonRefused,
@@ -45,6 +48,7 @@ const ROWS: [Row; 6] = [
         line: b"pocsag: logon refused\n",
     },
     Row {
+        name: "the tries are spent",
         pages: TWO,
         heard: b"ID=\x06\r\x1B[p\r\x15\r\x15\r\x15\r",
         status: Status::SomeUnsent,
@@ -54,6 +58,7 @@ const ROWS: [Row; 6] = [
         line: b"pocsag: some pages unsent\n",
     },
     Row {
+        name: "one page, sent",
         pages: b"PG1\n5551234 HELLO\n",
         heard: b"ID=\x06\r\x1B[p\r\x06\r\x1B\x04\r",
         status: Status::Done,
@@ -63,6 +68,7 @@ const ROWS: [Row; 6] = [
         line: b"",
     },
     Row {
+        name: "an id that is none",
         pages: b"PG1\n12a X\n",
         heard: b"ID=",
         status: Status::BadPages,
@@ -72,6 +78,7 @@ const ROWS: [Row; 6] = [
         line: b"pocsag: pages file: line 2\n",
     },
     Row {
+        name: "a first line that is none",
         pages: b"PG2\n",
         heard: b"ID=",
         status: Status::BadPages,
@@ -82,14 +89,14 @@ const ROWS: [Row; 6] = [
     },
 ];
 
-/// Sends the pages of a row.
-fn sent(alloc: Global, row: &Row) -> Result<Left, Fail> {
+/// Sends the pages of a row, where what is heard comes in pieces of so many bytes at most.
+fn sent(alloc: Global, row: &Row, cut: usize) -> Result<Left, Fail> {
     let files = files(alloc, &[("pages.txt", row.pages)])?;
     let objects = Objects {
         heard: row.heard,
         files: &files,
         input: b"",
-        cut: 5,
+        cut,
         faults: &[],
     };
     run_over(alloc, SEND, objects)
@@ -98,12 +105,15 @@ fn sent(alloc: Global, row: &Row) -> Result<Left, Fail> {
 #[test]
 fn pages_are_sent_and_told(rt: HostRuntime) -> Result<(), Fail> {
     for row in &ROWS {
-        let left = sent(rt.alloc(), row)?;
-        assert_eq!(rt; left.status, row.status);
-        assert_eq!(rt; left.status.code(), row.code);
-        assert_eq!(rt; left.said.as_slice(), row.said);
-        assert_eq!(rt; left.out.as_slice(), row.lines);
-        assert_eq!(rt; left.err.as_slice(), row.line);
+        let name = row.name;
+        for cut in [1, 5, 100] {
+            let left = sent(rt.alloc(), row, cut)?;
+            assert_eq!(rt; left.status, row.status, "{name}, cut {cut}");
+            assert_eq!(rt; left.status.code(), row.code, "{name}, cut {cut}");
+            assert_eq!(rt; left.said.as_slice(), row.said, "{name}, cut {cut}");
+            assert_eq!(rt; left.out.as_slice(), row.lines, "{name}, cut {cut}");
+            assert_eq!(rt; left.err.as_slice(), row.line, "{name}, cut {cut}");
+        }
     }
     Ok(())
 }

@@ -2,10 +2,7 @@
 //!
 //! Expected values are those of M.584-2, of the profile, and of examples that were worked by hand.
 //!
-//! - `words`: remainders, known words, distances, the correction of one word, and how texts are packed into groups.
-//! - `capcodes`: the capcodes that are used and those that are not, as numbers and in settings files.
 //! - `blocks`: blocks of the entry line with their sums.
-//! - `pools`: a pool that is full.
 //! - `runs`: a run of the program over objects in memory, and `airs`, the bytes of transmissions.
 //! - `one_page`: runs of `one`.
 //! - `receivers`: runs of `play` and `show`.
@@ -27,8 +24,6 @@ mod airs;
 #[cfg(test)]
 mod blocks;
 #[cfg(test)]
-mod capcodes;
-#[cfg(test)]
 mod clients;
 #[cfg(test)]
 mod cuts;
@@ -40,8 +35,6 @@ mod long_files;
 mod long_sessions;
 #[cfg(test)]
 mod one_page;
-#[cfg(test)]
-mod pools;
 #[cfg(test)]
 mod receivers;
 #[cfg(test)]
@@ -58,5 +51,3 @@ mod stands;
 mod stations;
 #[cfg(test)]
 mod trials;
-#[cfg(test)]
-mod words;

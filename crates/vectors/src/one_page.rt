@@ -4,6 +4,7 @@ use crate::airs::{ABC, air_of};
 use crate::runs::{Left, Object, Objects, run_into, run_over, spelled};
 use station::Status;
 use std::alloc::{AllocError, Global};
+use std::process::Abort;
 use std::test::Fail;
 
 /// One block: `123`, `ABC`.
@@ -30,16 +31,34 @@ fn ran_one(
     run_over(alloc, &["one", capcode], objects)
 }
 
-/// A capcode, a block, the length of its pieces, and the words of the transmission.
-type Row = (&'static str, &'static [u8], usize, &'static [(usize, u32)]);
+/// What a row shows, a capcode, a block, the length of its pieces, and the words of the transmission.
+type Row = (
+    &'static str,
+    &'static str,
+    &'static [u8],
+    usize,
+    &'static [(usize, u32)],
+);
 
-/// The last block has a letter and a carriage return, which it spells by SUB.
 const SENT: [Row; 5] = [
-    ("8", ABC_BLOCK, 14, ABC),
-    ("0000008", ABC_BLOCK, 1, ABC),
-    ("8", ABC_BLOCK, 5, ABC),
-    ("08", WITH_PARITY, 3, ABC),
+    ("three letters", "8", ABC_BLOCK, 14, ABC),
     (
+        "zeros in front of the capcode, byte by byte",
+        "0000008",
+        ABC_BLOCK,
+        1,
+        ABC,
+    ),
+    (
+        "two pieces that are cut within a field",
+        "8",
+        ABC_BLOCK,
+        5,
+        ABC,
+    ),
+    ("parity bits", "08", WITH_PARITY, 3, ABC),
+    (
+        "a carriage return, spelled by SUB",
         "8",
         b"\x021\rA\x1AM\r\x030?8\r",
         4,
@@ -49,117 +68,131 @@ const SENT: [Row; 5] = [
 
 #[test]
 fn one_block_becomes_one_transmission(rt: HostRuntime) -> Result<(), Fail> {
-    for (capcode, block, cut, words) in &SENT {
+    for (name, capcode, block, cut, words) in &SENT {
         let left = ran_one(rt.alloc(), *capcode, *block, *cut, &[])?;
         let air = air_of(rt.alloc(), 1, *words)?;
-        assert_eq!(rt; left.status, Status::Done);
-        assert_eq!(rt; left.status.code(), 0);
-        assert_eq!(rt; left.out.as_slice(), air.as_slice());
-        assert_eq!(rt; left.out.len(), 140);
-        assert!(rt; left.err.is_empty());
+        assert_eq!(rt; left.status, Status::Done, "{name}");
+        assert_eq!(rt; left.status.code(), 0, "{name}");
+        assert_eq!(rt; left.out.as_slice(), air.as_slice(), "{name}");
+        assert_eq!(rt; left.out.len(), 140, "{name}");
+        assert!(rt; left.err.is_empty(), "{name}");
     }
     Ok(())
 }
 
+/// What an input is, and the input.
+type Input = (&'static str, &'static [u8]);
+
 /// Checks that `one` refuses these inputs with this status, its code and its line, and writes nothing.
 fn refused(
+    rt: &impl Abort,
     alloc: Global,
-    table: &[&[u8]],
+    table: &[Input],
     expected: Status,
     code: u8,
     line: &[u8],
-) -> Result<bool, Fail> {
-    for block in table {
+) -> Result<(), Fail> {
+    for (name, block) in table {
         let left = ran_one(alloc, "8", *block, 300, &[])?;
-        if left.status != expected || left.status.code() != code {
-            return Ok(false);
-        }
-        if !left.out.is_empty() || left.err.as_slice() != line {
-            return Ok(false);
-        }
+        assert_eq!(rt; left.status, expected, "{name}");
+        assert_eq!(rt; left.status.code(), code, "{name}");
+        assert!(rt; left.out.is_empty(), "{name}");
+        assert_eq!(rt; left.err.as_slice(), line, "{name}");
     }
-    Ok(true)
+    Ok(())
 }
 
 /// Inputs that aren't one block.
-const NO_BLOCKS: [&[u8]; 10] = [
-    b"",
-    b"\x02",
-    b"\x02123\rABC\r\x0317;\rx",
-    b"x\x02123\rABC\r\x0317;\r",
-    b"\x02123\rABC\r\x0317;",
-    b"\x02123\rABC\r\x1718?\r",
-    b"\x02123\rABC\r\x1F190\r",
-    b"\x02123\rABC\r\x02123\rABC\r\x0317;\r",
-    b"\x03\x0317;\r",
-    b"\r",
+const NO_BLOCKS: [Input; 10] = [
+    ("nothing", b""),
+    ("STX alone", b"\x02"),
+    ("a byte behind the block", b"\x02123\rABC\r\x0317;\rx"),
+    ("a byte before the block", b"x\x02123\rABC\r\x0317;\r"),
+    ("no last CR", b"\x02123\rABC\r\x0317;"),
+    ("the end ETB", b"\x02123\rABC\r\x1718?\r"),
+    ("the end US", b"\x02123\rABC\r\x1F190\r"),
+    (
+        "a block in a block",
+        b"\x02123\rABC\r\x02123\rABC\r\x0317;\r",
+    ),
+    ("no STX", b"\x03\x0317;\r"),
+    ("CR alone", b"\r"),
 ];
 
 #[test]
 fn other_input_is_no_block(rt: HostRuntime) -> Result<(), Fail> {
-    let all = refused(
+    refused(
+        &rt,
         rt.alloc(),
         &NO_BLOCKS,
         Status::NotBlock,
         8,
         b"pocsag: not a block\n",
-    )?;
-    assert!(rt; all);
-    Ok(())
+    )
 }
 
 /// Blocks with a wrong trailer.
-const WRONG_SUMS: [&[u8]; 7] = [
-    b"\x02123\rABC\r\x0317<\r",
-    b"\x02123\rABC\r\x0317;\n",
-    b"\x02123\rABC\r\x03\r",
-    b"\x02123\rABC\r\x0317\r",
-    b"\x02123\rABC\r\x03017;",
-    b"\x02123\rABC\x0317;\r",
-    b"\x02\x03000\r",
+const WRONG_SUMS: [Input; 7] = [
+    ("the last character is one more", b"\x02123\rABC\r\x0317<\r"),
+    ("LF at the end", b"\x02123\rABC\r\x0317;\n"),
+    ("no sum", b"\x02123\rABC\r\x03\r"),
+    ("two characters", b"\x02123\rABC\r\x0317\r"),
+    ("four characters", b"\x02123\rABC\r\x03017;"),
+    ("no CR behind the text", b"\x02123\rABC\x0317;\r"),
+    ("no text and a sum of zeros", b"\x02\x03000\r"),
 ];
 
 /// A wrong trailer comes before a text that isn't there.
 #[test]
 fn a_wrong_trailer_is_a_wrong_sum(rt: HostRuntime) -> Result<(), Fail> {
-    let all = refused(
+    refused(
+        &rt,
         rt.alloc(),
         &WRONG_SUMS,
         Status::BadSum,
         9,
         b"pocsag: wrong sum\n",
-    )?;
-    assert!(rt; all);
-    Ok(())
+    )
 }
 
 /// Blocks with a right trailer, whose content has no text.
-const NO_TEXTS: [&[u8]; 11] = [
-    b"\x02\x03005\r",
-    b"\x02123\rABC\x0316>\r",
-    b"\x02\r\r\r\x0302<\r",
-    b"\x02123\r\rABC\r\x03188\r",
-    b"\x02123\rA\x7F\r\x03175\r",
-    b"\x021\rA\nB\r\x030==\r",
-    b"\x02123\rA\x1A\r\x03110\r",
-    b"\x02123\rA\x1A!\r\x03131\r",
-    b"\x021\x1A\rA\r\x030:;\r",
-    b"\x021\x01\rA\r\x03092\r",
-    b"\x021\rA\x1AA\r\x030><\r",
+const NO_TEXTS: [Input; 11] = [
+    ("no field", b"\x02\x03005\r"),
+    ("one field", b"\x02123\rABC\x0316>\r"),
+    ("three fields", b"\x02\r\r\r\x0302<\r"),
+    ("an empty field between", b"\x02123\r\rABC\r\x03188\r"),
+    ("DEL in the text", b"\x02123\rA\x7F\r\x03175\r"),
+    ("LF in the text", b"\x021\rA\nB\r\x030==\r"),
+    ("SUB at the end", b"\x02123\rA\x1A\r\x03110\r"),
+    (
+        "SUB before a character that it does not spell",
+        b"\x02123\rA\x1A!\r\x03131\r",
+    ),
+    (
+        "SUB at the end of the first field",
+        b"\x021\x1A\rA\r\x030:;\r",
+    ),
+    (
+        "a control character in the first field",
+        b"\x021\x01\rA\r\x03092\r",
+    ),
+    (
+        "SUB before a letter that spells SOH",
+        b"\x021\rA\x1AA\r\x030><\r",
+    ),
 ];
 
 /// No two fields, a field without a value, and a text that no alphanumeric page carries.
 #[test]
 fn a_content_without_a_text(rt: HostRuntime) -> Result<(), Fail> {
-    let all = refused(
+    refused(
+        &rt,
         rt.alloc(),
         &NO_TEXTS,
         Status::BadText,
         10,
         b"pocsag: text\n",
-    )?;
-    assert!(rt; all);
-    Ok(())
+    )
 }
 
 /// A block whose text is so many letters `A`, with an empty first field and the sum that it has to have.
@@ -182,14 +215,15 @@ fn the_longest_body_has_250_characters(rt: HostRuntime) -> Result<(), Fail> {
     ] {
         let block = letters(rt.alloc(), count)?;
         let left = ran_one(rt.alloc(), "0", &block, 100, &[])?;
-        assert_eq!(rt; left.status, status);
-        assert_eq!(rt; left.out.len(), size);
+        assert_eq!(rt; left.status, status, "{count} letters");
+        assert_eq!(rt; left.out.len(), size, "{count} letters");
     }
     Ok(())
 }
 
-/// The calls that fail, the input, the status, how many bytes of the transmission were written, and the line about the status.
+/// What fails, the calls, the input, the status, how many bytes of the transmission were written, and the line about the status.
 type Failing = (
+    &'static str,
     &'static [(Object, u64)],
     &'static [u8],
     Status,
@@ -200,6 +234,7 @@ type Failing = (
 /// Runs over failing objects.
 const FAILING: [Failing; 6] = [
     (
+        "the first read",
         &[(Object::Input, 1)],
         ABC_BLOCK,
         Status::InputFault,
@@ -207,6 +242,7 @@ const FAILING: [Failing; 6] = [
         b"pocsag: input\n",
     ),
     (
+        "the third read",
         &[(Object::Input, 3)],
         ABC_BLOCK,
         Status::InputFault,
@@ -214,25 +250,47 @@ const FAILING: [Failing; 6] = [
         b"pocsag: input\n",
     ),
     (
+        "the first read, and the line about it",
         &[(Object::Input, 1), (Object::Errors, 1)],
         ABC_BLOCK,
         Status::OutFault,
         0,
         b"",
     ),
-    (&[(Object::Output, 1)], ABC_BLOCK, Status::OutFault, 0, b""),
-    (&[(Object::Output, 2)], ABC_BLOCK, Status::OutFault, 72, b""),
-    (&[(Object::Errors, 1)], b"x", Status::OutFault, 0, b""),
+    (
+        "the preamble",
+        &[(Object::Output, 1)],
+        ABC_BLOCK,
+        Status::OutFault,
+        0,
+        b"",
+    ),
+    (
+        "the batch",
+        &[(Object::Output, 2)],
+        ABC_BLOCK,
+        Status::OutFault,
+        72,
+        b"",
+    ),
+    (
+        "the line about a block that is none",
+        &[(Object::Errors, 1)],
+        b"x",
+        Status::OutFault,
+        0,
+        b"",
+    ),
 ];
 
 #[test]
 fn a_failing_object_is_named(rt: HostRuntime) -> Result<(), Fail> {
     let air = air_of(rt.alloc(), 1, ABC)?;
-    for (faults, block, status, size, line) in &FAILING {
+    for (name, faults, block, status, size, line) in &FAILING {
         let left = ran_one(rt.alloc(), "8", *block, 5, *faults)?;
-        assert_eq!(rt; left.status, *status);
-        assert_eq!(rt; Some(left.out.as_slice()), air.get(..*size));
-        assert_eq!(rt; left.err.as_slice(), *line);
+        assert_eq!(rt; left.status, *status, "{name}");
+        assert_eq!(rt; Some(left.out.as_slice()), air.get(..*size), "{name}");
+        assert_eq!(rt; left.err.as_slice(), *line, "{name}");
     }
     Ok(())
 }

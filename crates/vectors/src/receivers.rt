@@ -37,8 +37,13 @@ fn airs(alloc: Global, noises: &[u32]) -> Result<Vec<u8>, AllocError> {
     Ok(air)
 }
 
-/// The noises of airs one after another, the words, and the lines that are printed.
-type Row = (&'static [u32], &'static [&'static str], &'static [u8]);
+/// What a row shows, the noises of airs one after another, the words, and the lines that are printed.
+type Row = (
+    &'static str,
+    &'static [u32],
+    &'static [&'static str],
+    &'static [u8],
+);
 
 const ONCE: &[u8] = b"01 0000008 A ABC\n";
 
@@ -47,27 +52,33 @@ const TWICE: &[u8] = b"01 0000008 A ABC\n01 0000008 A ABC\n";
 const PLAY: &[&str] = &["play", "air.bin", "8"];
 
 const HEARD: [Row; 6] = [
-    (&[0], &["play", "air.bin", "9"], b""),
-    (&[0], &["play", "air.bin", "8", "16"], ONCE),
-    (&[0], &["play", "air.bin", "9", "16"], b""),
-    (&[0, 0], PLAY, TWICE),
+    ("another capcode", &[0], &["play", "air.bin", "9"], b""),
+    ("one of two", &[0], &["play", "air.bin", "8", "16"], ONCE),
+    ("neither of two", &[0], &["play", "air.bin", "9", "16"], b""),
+    ("two transmissions", &[0, 0], PLAY, TWICE),
     (
+        "two wrong bits in each word of the second",
         &[0, 0x8000_0001],
         &["play", "air.bin", "0000008", "16"],
         TWICE,
     ),
-    (&[0x8000_0001, 0x8000_0001], PLAY, TWICE),
+    (
+        "two wrong bits in each word of both",
+        &[0x8000_0001, 0x8000_0001],
+        PLAY,
+        TWICE,
+    ),
 ];
 
 /// The second preamble stands at a sync place, where the lock is lost.
 #[test]
 fn receivers_print_their_pages(rt: HostRuntime) -> Result<(), Fail> {
-    for (noises, words, lines) in &HEARD {
+    for (name, noises, words, lines) in &HEARD {
         let air = airs(rt.alloc(), *noises)?;
         let left = heard(rt.alloc(), *words, &air, &[])?;
-        assert_eq!(rt; left.status, Status::Done);
-        assert_eq!(rt; left.out.as_slice(), *lines);
-        assert!(rt; left.err.is_empty());
+        assert_eq!(rt; left.status, Status::Done, "{name}");
+        assert_eq!(rt; left.out.as_slice(), *lines, "{name}");
+        assert!(rt; left.err.is_empty(), "{name}");
     }
     Ok(())
 }
@@ -185,40 +196,49 @@ fn sync_words_in_slots_are_addresses(rt: HostRuntime) -> Result<(), Fail> {
 /// The slots of the tones to 8, 16 and 15, in this order.
 const TONES: [(usize, u32); 3] = [(0, 0x0000_283F), (1, 0x0000_4DD8), (14, 0x0000_283F)];
 
-/// The words, and the lines that are printed of the tones.
-const SHARED: [(&[&str], &[u8]); 6] = [
+/// What a row shows, the words, and the lines that are printed of the tones.
+const SHARED: [(&str, &[&str], &[u8]); 6] = [
     (
+        "a capcode each",
         &["play", "air.bin", "8", "15", "16"],
         b"01 0000008 1 \n03 0000016 1 \n02 0000015 1 \n",
     ),
     (
+        "two capcodes each",
         &["play", "air.bin", "8+15", "16+8"],
         b"01 0000008 1 \n02 0000008 1 \n02 0000016 1 \n01 0000015 1 \n",
     ),
     (
+        "the same capcode",
         &["play", "air.bin", "8", "8"],
         b"01 0000008 1 \n02 0000008 1 \n",
     ),
     (
+        "four capcodes",
         &["play", "air.bin", "9+0000015+2000000+016"],
         b"01 0000016 1 \n01 0000015 1 \n",
     ),
     (
+        "the last of three",
         &["play", "air.bin", "9", "10+11", "12+15+13"],
         b"03 0000015 1 \n",
     ),
-    (&["play", "air.bin", "9+10+11+12", "17"], b""),
+    (
+        "none of these",
+        &["play", "air.bin", "9+10+11+12", "17"],
+        b"",
+    ),
 ];
 
 #[test]
 fn each_receiver_prints_the_pages_of_its_capcodes(rt: HostRuntime) -> Result<(), Fail> {
     let mut air = Vec::new(rt.alloc());
     push_air(&mut air, 1, &TONES, 0)?;
-    for (words, lines) in &SHARED {
+    for (name, words, lines) in &SHARED {
         let left = heard(rt.alloc(), *words, &air, &[])?;
-        assert_eq!(rt; left.status, Status::Done);
-        assert_eq!(rt; left.out.as_slice(), *lines);
-        assert!(rt; left.err.is_empty());
+        assert_eq!(rt; left.status, Status::Done, "{name}");
+        assert_eq!(rt; left.out.as_slice(), *lines, "{name}");
+        assert!(rt; left.err.is_empty(), "{name}");
     }
     Ok(())
 }

@@ -64,10 +64,14 @@ fn words_that_are_no_command_are_usage(rt: HostRuntime) -> Result<(), Fail> {
             faults: FIRST_CALLS,
         };
         let left = run_over(rt.alloc(), words, objects)?;
-        assert_eq!(rt; left.status, Status::Usage);
-        assert_eq!(rt; left.status.code(), 2);
-        assert!(rt; left.said.is_empty() && left.out.is_empty());
-        assert_eq!(rt; left.err.as_slice(), b"pocsag: usage\n".as_slice());
+        assert_eq!(rt; left.status, Status::Usage, "{words:?}");
+        assert_eq!(rt; left.status.code(), 2, "{words:?}");
+        assert!(rt; left.said.is_empty() && left.out.is_empty(), "{words:?}");
+        assert_eq!(rt;
+            left.err.as_slice(),
+            b"pocsag: usage\n".as_slice(),
+            "{words:?}"
+        );
     }
     Ok(())
 }
@@ -98,46 +102,68 @@ const MISSING: [&[&str]; 5] = [
 fn a_file_that_is_not_there_is_a_fault(rt: HostRuntime) -> Result<(), Fail> {
     for words in MISSING {
         let left = ran_with(rt.alloc(), words, "air.bin", b"\xAA")?;
-        assert_eq!(rt; left.status, Status::FileFault);
-        assert_eq!(rt; left.status.code(), 4);
-        assert!(rt; left.out.is_empty());
-        assert_eq!(rt; left.err.as_slice(), b"pocsag: file\n".as_slice());
+        assert_eq!(rt; left.status, Status::FileFault, "{words:?}");
+        assert_eq!(rt; left.status.code(), 4, "{words:?}");
+        assert!(rt; left.out.is_empty(), "{words:?}");
+        assert_eq!(rt;
+            left.err.as_slice(),
+            b"pocsag: file\n".as_slice(),
+            "{words:?}"
+        );
     }
     Ok(())
 }
 
-/// Settings files, and what the line about them says.
-const SETTINGS: [(&[u8], &[u8]); 12] = [
-    (b"cells =", b"pocsag: settings: not toml\n"),
-    (b"cell = 1", b"pocsag: settings: form\n"),
+/// What is wrong with settings files, the files, and what the line about them says.
+const SETTINGS: [(&str, &[u8], &[u8]); 12] = [
+    ("no value", b"cells =", b"pocsag: settings: not toml\n"),
+    ("no key cells", b"cell = 1", b"pocsag: settings: form\n"),
     (
+        "a password of two characters",
         b"cells = 1\npassword = \"ab\"",
         b"pocsag: settings: password\n",
     ),
-    (b"cells = 0", b"pocsag: settings: cells\n"),
-    (b"cells = 70000", b"pocsag: settings: cells\n"),
+    ("no cell", b"cells = 0", b"pocsag: settings: cells\n"),
     (
+        "70,000 cells",
+        b"cells = 70000",
+        b"pocsag: settings: cells\n",
+    ),
+    (
+        "an id that is none",
         b"cells = 1\nsubscriber = [{id = \"x\", capcode = 8, class = \"alpha\"}]",
         b"pocsag: settings: id at entry 1\n",
     ),
     (
+        "an id twice",
         b"cells = 1\nsubscriber = [{id = \"1\", capcode = 8, class = \"alpha\"}, {id = \"1\", capcode = 9, class = \"alpha\"}]",
         b"pocsag: settings: id twice at entry 2\n",
     ),
     (
+        "a capcode that is not usable",
         b"cells = 1\nsubscriber = [{id = \"1\", capcode = 8, class = \"alpha\"}, {id = \"2\", capcode = 2007664, class = \"alpha\"}]",
         b"pocsag: settings: capcode at entry 2\n",
     ),
     (
+        "a negative capcode",
         b"cells = 1\nsubscriber = [{id = \"1\", capcode = -1, class = \"alpha\"}]",
         b"pocsag: settings: capcode at entry 1\n",
     ),
     (
+        "a class that is none",
         b"cells = 1\nsubscriber = [{id = \"1\", capcode = 8, class = \"beta\"}]",
         b"pocsag: settings: class at entry 1\n",
     ),
-    (b"password = \"SECRET\"", b"pocsag: settings: form\n"),
-    (b"cells = 1\nextra = 1", b"pocsag: settings: form\n"),
+    (
+        "a password alone",
+        b"password = \"SECRET\"",
+        b"pocsag: settings: form\n",
+    ),
+    (
+        "a further key",
+        b"cells = 1\nextra = 1",
+        b"pocsag: settings: form\n",
+    ),
 ];
 
 /// The commands that read a settings file.
@@ -149,12 +175,15 @@ const READING: [&[&str]; 2] = [
 #[test]
 fn a_settings_file_that_is_refused_is_named(rt: HostRuntime) -> Result<(), Fail> {
     for words in READING {
-        for (settings, line) in SETTINGS {
+        for (name, settings, line) in SETTINGS {
             let left = ran_with(rt.alloc(), words, "s1.toml", settings)?;
-            assert_eq!(rt; left.status, Status::Settings);
-            assert_eq!(rt; left.status.code(), 3);
-            assert!(rt; left.out.is_empty() && left.air.is_none());
-            assert_eq!(rt; left.err.as_slice(), line);
+            assert_eq!(rt; left.status, Status::Settings, "{name}, {words:?}");
+            assert_eq!(rt; left.status.code(), 3, "{name}, {words:?}");
+            assert!(rt;
+                left.out.is_empty() && left.air.is_none(),
+                "{name}, {words:?}"
+            );
+            assert_eq!(rt; left.err.as_slice(), line, "{name}, {words:?}");
         }
     }
     Ok(())
@@ -165,7 +194,7 @@ fn a_settings_file_of_too_many_bytes_is_named(rt: HostRuntime) -> Result<(), Fai
     let spaces = vec![in rt.alloc(); b' '; 1_048_577]?;
     for words in READING {
         let left = ran_with(rt.alloc(), words, "s1.toml", &spaces)?;
-        assert_eq!(rt; left.status, Status::Settings);
+        assert_eq!(rt; left.status, Status::Settings, "{words:?}");
         assert_eq!(rt;
             left.err.as_slice(),
             b"pocsag: settings: too long\n".as_slice()
@@ -190,7 +219,7 @@ fn a_settings_file_of_too_many_subscribers_is_named(rt: HostRuntime) -> Result<(
     let settings = with_subscribers(rt.alloc(), 10_001)?;
     for words in READING {
         let left = ran_with(rt.alloc(), words, "s1.toml", &settings)?;
-        assert_eq!(rt; left.status, Status::Settings);
+        assert_eq!(rt; left.status, Status::Settings, "{words:?}");
         assert_eq!(rt;
             left.err.as_slice(),
             b"pocsag: settings: too many\n".as_slice()

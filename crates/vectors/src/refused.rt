@@ -7,6 +7,7 @@ const LOCKED: &[u8] = b"cells = 1\npassword = \"SECRET\"\n";
 
 pub(crate) const REFUSED: [Row; 7] = [
     Row {
+        name: "an id that is not there",
         settings: S1,
         heard: &[(b"\r\x1BPG1\r\x02999\rX\r\x03122\r\x04\r", 0)],
         said: b"ID=\x06\r\x1B[p\r\x1E\r\x1B\x04\r",
@@ -16,6 +17,7 @@ pub(crate) const REFUSED: [Row; 7] = [
         pages: b"",
     },
     Row {
+        name: "one field",
         settings: S1,
         heard: &[(b"\r\x1BPG1\r\x02HELLO\r\x03186\r\x04\r", 0)],
         said: b"ID=\x06\r\x1B[p\r\x1E\r\x1B\x04\r",
@@ -25,6 +27,7 @@ pub(crate) const REFUSED: [Row; 7] = [
         pages: b"",
     },
     Row {
+        name: "both",
         settings: S1,
         heard: &[(
             b"\r\x1BPG1\r\x02999\rX\r\x03122\r\x02HELLO\r\x03186\r\x04\r",
@@ -37,6 +40,7 @@ pub(crate) const REFUSED: [Row; 7] = [
         pages: b"",
     },
     Row {
+        name: "bodies and contents that are too long",
         settings: S1,
         heard: &[
             (b"\r\x1BPG1\r\x025551234\r", 241),
@@ -54,6 +58,7 @@ pub(crate) const REFUSED: [Row; 7] = [
         pages: b"",
     },
     Row {
+        name: "a logon without the password",
         settings: LOCKED,
         heard: &[(b"\x1BPG1\r\x1BPG1SECRET\r\x04\r", 0)],
         said: b"\x15\r\x06\r\x1B[p\r\x1B\x04\r",
@@ -63,6 +68,7 @@ pub(crate) const REFUSED: [Row; 7] = [
         pages: b"",
     },
     Row {
+        name: "three wrong lines",
         settings: S1,
         heard: &[(b"a\rb\rc\rd\r", 0)],
         said: b"\x15\r\x15\r\x1B\x04\r",
@@ -72,6 +78,7 @@ pub(crate) const REFUSED: [Row; 7] = [
         pages: b"",
     },
     Row {
+        name: "a line that ends",
         settings: S1,
         heard: &[(b"\r\x1BPG1\r", 0)],
         said: b"ID=\x06\r\x1B[p\r",

@@ -40,9 +40,10 @@ pub(crate) enum Air {
     Words(usize, &'static [(usize, u32)]),
 }
 
-/// A settings file; what is heard, each piece with so many letters A behind it; what is said; the line of the session; what the file
+/// What a row shows; a settings file; what is heard, each piece with so many letters A behind it; what is said; the line of the session; what the file
 /// of the air has; the capcodes that are listened to, and the lines of the pages that are heard.
 pub(crate) struct Row {
+    pub(crate) name: &'static str,
     pub(crate) settings: &'static [u8],
     pub(crate) heard: &'static [(&'static [u8], usize)],
     pub(crate) said: &'static [u8],
@@ -115,17 +116,20 @@ fn is_air(alloc: Global, air: Air, bytes: &[u8]) -> Result<bool, AllocError> {
 /// Compares what each row says with what its session leaves, and with what receivers then print.
 fn compare(rt: &impl Abort, alloc: Global, rows: &[Row]) -> Result<(), Fail> {
     for row in rows {
+        let name = row.name;
         let heard = spelled(alloc, row.heard)?;
-        let left = served(alloc, row.settings, &heard, 100)?;
-        assert_eq!(rt; left.status, Status::Done);
-        assert_eq!(rt; left.said.as_slice(), row.said);
-        assert_eq!(rt; left.out.as_slice(), row.line);
-        assert!(rt; left.err.is_empty());
-        let air = left.air.unwrap_or(Vec::new(alloc));
-        assert!(rt; is_air(alloc, row.air, &air)?);
-        let played = played(alloc, &air, row.capcodes)?;
-        assert_eq!(rt; played.status, Status::Done);
-        assert_eq!(rt; played.out.as_slice(), row.pages);
+        for cut in [1, 7, 100] {
+            let left = served(alloc, row.settings, &heard, cut)?;
+            assert_eq!(rt; left.status, Status::Done, "{name}, cut {cut}");
+            assert_eq!(rt; left.said.as_slice(), row.said, "{name}, cut {cut}");
+            assert_eq!(rt; left.out.as_slice(), row.line, "{name}, cut {cut}");
+            assert!(rt; left.err.is_empty(), "{name}, cut {cut}");
+            let air = left.air.unwrap_or(Vec::new(alloc));
+            assert!(rt; is_air(alloc, row.air, &air)?, "{name}, cut {cut}");
+            let played = played(alloc, &air, row.capcodes)?;
+            assert_eq!(rt; played.status, Status::Done, "{name}, cut {cut}");
+            assert_eq!(rt; played.out.as_slice(), row.pages, "{name}, cut {cut}");
+        }
     }
     Ok(())
 }

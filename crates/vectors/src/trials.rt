@@ -40,9 +40,10 @@ const HEARD: &[u8] = b"ID\nGO\nACK\nEND\n---\n01 0000008 A HELLO\n";
 /// The same, and the lines of its page for the receivers 2 and 3.
 const HEARD_TWICE: &[u8] = b"ID\nGO\nACK\nEND\n---\n02 0000008 A HELLO\n03 0000008 A HELLO\n";
 
-/// The receivers; the noise behind 72 bytes 0, or none where the file isn't there; the status, what is printed, and the line about the
+/// What a row shows; the receivers; the noise behind 72 bytes 0, or none where the file isn't there; the status, what is printed, and the line about the
 /// status.
 type Row = (
+    &'static str,
     &'static [&'static str],
     Option<&'static [u32]>,
     Status,
@@ -51,18 +52,47 @@ type Row = (
 );
 
 const ROWS: [Row; 6] = [
-    (&["8"], Some(TWO_WRONG), Status::Done, HEARD, b""),
-    (&["8"], Some(THREE_WRONG), Status::Done, ANSWERS, b""),
-    (&["8"], Some(&[]), Status::Done, HEARD, b""),
-    (&["9", "16"], Some(TWO_WRONG), Status::Done, ANSWERS, b""),
     (
+        "two wrong bits a word",
+        &["8"],
+        Some(TWO_WRONG),
+        Status::Done,
+        HEARD,
+        b"",
+    ),
+    (
+        "three wrong bits a word",
+        &["8"],
+        Some(THREE_WRONG),
+        Status::Done,
+        ANSWERS,
+        b"",
+    ),
+    ("no noise", &["8"], Some(&[]), Status::Done, HEARD, b""),
+    (
+        "other receivers",
+        &["9", "16"],
+        Some(TWO_WRONG),
+        Status::Done,
+        ANSWERS,
+        b"",
+    ),
+    (
+        "the second and third of three receivers",
         &["9", "16+8", "8"],
         Some(TWO_WRONG),
         Status::Done,
         HEARD_TWICE,
         b"",
     ),
-    (&["8"], None, Status::FileFault, ANSWERS, b"pocsag: file\n"),
+    (
+        "no noise file",
+        &["8"],
+        None,
+        Status::FileFault,
+        ANSWERS,
+        b"pocsag: file\n",
+    ),
 ];
 
 /// The bytes of a noise.
@@ -101,12 +131,12 @@ fn tried(alloc: Global, receivers: &[&str], noise: Option<&[u32]>) -> Result<Lef
 
 #[test]
 fn a_session_is_tried_through_a_noise(rt: HostRuntime) -> Result<(), Fail> {
-    for (receivers, noise, status, printed, line) in &ROWS {
+    for (name, receivers, noise, status, printed, line) in &ROWS {
         let left = tried(rt.alloc(), *receivers, *noise)?;
-        assert_eq!(rt; left.status, *status);
-        assert_eq!(rt; left.out.as_slice(), *printed);
-        assert_eq!(rt; left.err.as_slice(), *line);
-        assert!(rt; left.air.is_none());
+        assert_eq!(rt; left.status, *status, "{name}");
+        assert_eq!(rt; left.out.as_slice(), *printed, "{name}");
+        assert_eq!(rt; left.err.as_slice(), *line, "{name}");
+        assert!(rt; left.air.is_none(), "{name}");
     }
     Ok(())
 }

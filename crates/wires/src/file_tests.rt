@@ -18,12 +18,12 @@ const LONG_FILE: [u8; 4098] = [0xA5; 4098];
 fn bits_come_from_bytes_the_most_significant_first(rt: HostRuntime) -> Result<(), Fail> {
     let source = MemorySource::new(rt.alloc(), &[0xA5, 0xA5], 1, &[2])?;
     let mut bits = ByteBits::over(source);
-    for bit in BITS {
-        assert_eq!(rt; bits.bit(), Ok(Some(bit)));
+    for (k, bit) in BITS.into_iter().enumerate() {
+        assert_eq!(rt; bits.bit(), Ok(Some(bit)), "bit {k} of the first byte");
     }
     assert_eq!(rt; bits.bit(), Err(Failed));
-    for bit in BITS {
-        assert_eq!(rt; bits.bit(), Ok(Some(bit)));
+    for (k, bit) in BITS.into_iter().enumerate() {
+        assert_eq!(rt; bits.bit(), Ok(Some(bit)), "bit {k} of the second byte");
     }
     assert_eq!(rt; skip(&mut bits), Ok(false));
     Ok(())
@@ -35,9 +35,9 @@ fn bits_come_from_a_file_that_is_longer_than_one_read(rt: HostRuntime) -> Result
     let bytes = Vec::from_slice(rt.alloc(), &LONG_FILE)?;
     let mut shelf = MemoryShelf::new(rt.alloc(), &[(name, bytes)], 0, &[3])?;
     let mut bits = ShelfBits::over(&mut shelf, "air");
-    for _ in 0..LONG_FILE.len() {
+    for byte in 0..LONG_FILE.len() {
         for bit in BITS {
-            assert_eq!(rt; bits.bit(), Ok(Some(bit)));
+            assert_eq!(rt; bits.bit(), Ok(Some(bit)), "byte {byte}");
         }
     }
     assert_eq!(rt; bits.bit(), Err(Failed));

@@ -68,9 +68,9 @@ fn a_source_gives_all_its_bytes_whatever_its_cut(rt: HostRuntime) -> Result<(), 
     for cut in [1, 2, 3, 9] {
         let mut source = MemorySource::new(rt.alloc(), b"seven B", cut, &[])?;
         let mut sink = MemorySink::new(rt.alloc(), 7, &[])?;
-        assert_eq!(rt; copy(&mut source, &mut sink), Copied::Whole, "at {cut}");
-        assert_eq!(rt; sink.bytes(), b"seven B".as_slice(), "at {cut}");
-        assert_eq!(rt; source.take(&mut [0; 4]), Ok(0), "at {cut}");
+        assert_eq!(rt; copy(&mut source, &mut sink), Copied::Whole, "cut {cut}");
+        assert_eq!(rt; sink.bytes(), b"seven B".as_slice(), "cut {cut}");
+        assert_eq!(rt; source.take(&mut [0; 4]), Ok(0), "cut {cut}");
     }
     Ok(())
 }
@@ -85,7 +85,7 @@ fn a_source_gives_at_most_its_cut(rt: HostRuntime) -> Result<(), Fail> {
     ] {
         let mut source = MemorySource::new(rt.alloc(), b"12345", cut, &[])?;
         for want in gives {
-            assert_eq!(rt; source.take(&mut [0; 4]), Ok(want), "at {cut}");
+            assert_eq!(rt; source.take(&mut [0; 4]), Ok(want), "cut {cut}");
         }
     }
     Ok(())
@@ -94,8 +94,15 @@ fn a_source_gives_at_most_its_cut(rt: HostRuntime) -> Result<(), Fail> {
 #[test]
 fn a_source_fails_exactly_at_its_failing_calls(rt: HostRuntime) -> Result<(), Fail> {
     let mut source = MemorySource::new(rt.alloc(), b"ab", 1, &[2, 4])?;
-    for want in [Ok(1), Err(Failed), Ok(1), Err(Failed), Ok(0), Ok(0)] {
-        assert_eq!(rt; source.take(&mut [0; 4]), want);
+    for (call, want) in [
+        (1, Ok(1)),
+        (2, Err(Failed)),
+        (3, Ok(1)),
+        (4, Err(Failed)),
+        (5, Ok(0)),
+        (6, Ok(0)),
+    ] {
+        assert_eq!(rt; source.take(&mut [0; 4]), want, "call {call}");
     }
     Ok(())
 }
@@ -105,16 +112,41 @@ fn a_sink_fails_exactly_at_its_failing_calls_and_past_its_room(
     rt: HostRuntime,
 ) -> Result<(), Fail> {
     let mut sink = MemorySink::new(rt.alloc(), 5, &[2])?;
-    for (piece, want, holds) in [
-        (b"abc".as_slice(), Ok(()), b"abc".as_slice()),
-        (b"d".as_slice(), Err(Failed), b"abc".as_slice()),
-        (b"def".as_slice(), Err(Failed), b"abc".as_slice()),
-        (b"de".as_slice(), Ok(()), b"abcde".as_slice()),
-        (b"".as_slice(), Ok(()), b"abcde".as_slice()),
-        (b"f".as_slice(), Err(Failed), b"abcde".as_slice()),
+    for (name, piece, want, holds) in [
+        ("room for all", b"abc".as_slice(), Ok(()), b"abc".as_slice()),
+        (
+            "a failing call",
+            b"d".as_slice(),
+            Err(Failed),
+            b"abc".as_slice(),
+        ),
+        (
+            "past its room",
+            b"def".as_slice(),
+            Err(Failed),
+            b"abc".as_slice(),
+        ),
+        (
+            "up to its room",
+            b"de".as_slice(),
+            Ok(()),
+            b"abcde".as_slice(),
+        ),
+        (
+            "nothing, when full",
+            b"".as_slice(),
+            Ok(()),
+            b"abcde".as_slice(),
+        ),
+        (
+            "a byte, when full",
+            b"f".as_slice(),
+            Err(Failed),
+            b"abcde".as_slice(),
+        ),
     ] {
-        assert_eq!(rt; sink.put(piece), want);
-        assert_eq!(rt; sink.bytes(), holds);
+        assert_eq!(rt; sink.put(piece), want, "{name}");
+        assert_eq!(rt; sink.bytes(), holds, "{name}");
     }
     Ok(())
 }
@@ -149,8 +181,8 @@ fn forty_words_arrive_whole_in_two_pieces(rt: HostRuntime) -> Result<(), Fail> {
     let mut sink = MemorySink::new(rt.alloc(), 160, &[3])?;
     assert_eq!(rt; words_over(&mut sink, &[0x0102_0304; 40]), Ok(()));
     assert_eq!(rt; sink.bytes().len(), 160);
-    for four in sink.bytes().chunks(4) {
-        assert_eq!(rt; four, [1, 2, 3, 4].as_slice());
+    for (word, four) in sink.bytes().chunks(4).enumerate() {
+        assert_eq!(rt; four, [1, 2, 3, 4].as_slice(), "word {word}");
     }
     assert_eq!(rt; sink.put(b""), Err(Failed), "the third call");
     Ok(())

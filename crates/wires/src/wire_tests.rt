@@ -126,12 +126,12 @@ fn a_bit_is_kept_where_its_noise_fails(rt: HostRuntime) -> Result<(), Fail> {
     let bits = ByteBits::over(MemorySource::new(rt.alloc(), &[0xA5, 0x81], 1, &[2])?);
     let mut noisy = Noisy::over(bits, &mut noise);
     assert_eq!(rt; noisy.bit(), Err(Failed), "the noise");
-    for bit in &NOISY[..8] {
-        assert_eq!(rt; noisy.bit(), Ok(Some(*bit)));
+    for (k, bit) in NOISY[..8].iter().enumerate() {
+        assert_eq!(rt; noisy.bit(), Ok(Some(*bit)), "bit {k} of the first byte");
     }
     assert_eq!(rt; noisy.bit(), Err(Failed), "the bits");
-    for bit in &NOISY[8..] {
-        assert_eq!(rt; noisy.bit(), Ok(Some(*bit)));
+    for (k, bit) in NOISY[8..].iter().enumerate() {
+        assert_eq!(rt; noisy.bit(), Ok(Some(*bit)), "bit {k} of the second byte");
     }
     assert_eq!(rt; noisy.bit(), Ok(None));
     Ok(())
