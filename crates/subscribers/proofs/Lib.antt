@@ -1,4 +1,5 @@
 pub mod Answered
+pub mod Digits
 pub mod Directories
 pub mod Forms
 pub mod Ids

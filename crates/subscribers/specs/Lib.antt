@@ -4,3 +4,4 @@ pub mod Parts
 pub mod Entries
 pub mod Settings
 pub mod Directory
+pub mod Made

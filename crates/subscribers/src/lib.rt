@@ -7,6 +7,7 @@
 //! - `faults`: why a settings file is refused.
 //! - `document`: the form of the document, that is its keys and the kinds of their values.
 //! - `entries`: the checks of each entry, and the map that the entries make.
+//! - `numbers`: the map that numbers make, for settings without a file.
 //! - `directory`: the ordered map of ids.
 //! - `settings`: the settings.
 //! - `laws`: the test of a capcode passes those that are usable.
@@ -17,6 +18,7 @@ mod document;
 mod entries;
 pub mod faults;
 pub mod laws;
+mod numbers;
 pub mod settings;
 pub mod subscriber;
 

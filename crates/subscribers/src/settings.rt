@@ -1,21 +1,25 @@
 //! The settings.
 
-ghost use Rattle.std.specs.Prelude.{◌≡◌, ◌≤◌, ◌⊎◌, Some, None, Ok, Err, IfOk, IfErr, option_map, if◌then◌else◌};
+ghost use Rattle.std.specs.Prelude.{◌≡◌, ◌==◌, length, ◌≤◌, ◌⊎◌, Some, None, Ok, Err, IfOk, IfErr, option_map, if◌then◌else◌};
 ghost use Rattle.toml.specs.View.{table_view};
 ghost use Rattle.subscribers.specs.Seen.{seen_document};
-ghost use Rattle.subscribers.specs.Settings.{most_cells, is_password, is_password_or_none, cells_in_range, settings_of_form, settings_of_tree, tree_of, settings_of, IsOrMemory};
-ghost use Rattle.std.specs.List.{list_all};
+ghost use Rattle.subscribers.specs.Settings.{most_cells, most_entries, is_password, is_password_or_none, cells_in_range, settings_of_form, settings_of_tree, tree_of, settings_of, IsOrMemory};
+ghost use Rattle.std.specs.List.{list_all, IsDistinct};
+ghost use Rattle.subscribers.specs.Made.{made_parts, numbers_of};
 ghost use Rattle.subscribers.specs.Entries.{is_between};
 
 use crate::directory::Directory;
 use crate::document::{Document, document_from};
 use crate::entries::directory_from;
 use crate::faults::SettingsFault;
+use crate::numbers::directory_of_numbers;
 use crate::subscriber::Subscriber;
+use codeword::{Capcode, Function};
 use entry_line::characters::PASSWORD_SIZE;
 use std::alloc::Global;
 use std::marker::Model;
 use toml::Table;
+use wires::Memory;
 
 /// A settings file has at most this many bytes.
 pub const MOST_BYTES: usize = 1_048_576;
@@ -61,6 +65,29 @@ impl Settings {
         match tree_from(alloc, bytes) {
             Ok(tree) => settings_from_tree(alloc, &tree),
             Err(fault) => Err(fault),
+        }
+    }
+
+    /// Settings of 1 to 65,536 cells without a password, whose ids are the decimal digits of these numbers, without zeros in front. There
+    /// are at most 10,000 numbers, and they differ. Nothing stays after Memory.
+    pub fn made(
+        alloc: Global,
+        cells: u32,
+        ids: &[(u32, Capcode, Function)],
+    ) -> Result<Settings, Memory>
+        requires some { 1 ≤ cells }
+        requires most { cells ≤ most_cells }
+        requires few { length ids.now ≤ most_entries }
+        requires differ { IsDistinct ◌==◌ (numbers_of ids.now) }
+        ensures { IfOk result (λ s. s ≡ made_parts cells ids.now) }
+    {
+        match directory_of_numbers(alloc, ids) {
+            Ok(ids) => Ok(Settings {
+                cells,
+                password: None,
+                ids,
+            }),
+            Err(_) => Err(Memory),
         }
     }
 

@@ -1,7 +1,7 @@
 //! Files and what they give. The answers are those of the table of the rule "settings" in docs/profile.md.
 
 use super::*;
-use codeword::Function;
+use codeword::{Capcode, Function};
 use std::alloc::{AllocError, Global};
 use std::test::Fail;
 
@@ -344,6 +344,48 @@ fn an_entry_has_a_usable_capcode(rt: HostRuntime) -> Result<(), Fail> {
             Some(SettingsFault::Capcode(1))
         };
         assert_eq!(rt; fault(rt.alloc(), file.as_bytes()), wanted, "{number}");
+
+/// The ids of the numbers of `numbers_are_ids`, with their capcodes and functions.
+const DIGITS: [(&str, u32, Function); 4] = [
+    ("5551234", 8, Function::Alpha),
+    ("0", 9, Function::Numeric),
+    ("80", 15, Function::Tone1),
+    ("4294967295", 8, Function::Tone2),
+];
+
+/// Texts that are no id of these numbers.
+const NO_DIGITS: [&str; 5] = ["", "05551234", "8", "00", "555123"];
+
+/// A usable capcode.
+fn capcode(number: u32) -> Result<Capcode, Fail> {
+    match Capcode::of(number) {
+        Some(capcode) => Ok(capcode),
+        None => Err(Fail::from("the capcode is refused")),
+    }
+}
+
+#[test]
+fn numbers_are_ids(rt: HostRuntime) -> Result<(), Fail> {
+    let numbers = [
+        (5_551_234, capcode(8)?, Function::Alpha),
+        (0, capcode(9)?, Function::Numeric),
+        (80, capcode(15)?, Function::Tone1),
+        (4_294_967_295, capcode(8)?, Function::Tone2),
+    ];
+    let settings = match Settings::made(rt.alloc(), 65_536, &numbers) {
+        Ok(settings) => settings,
+        Err(_) => return Err(Fail::from("there is no memory")),
+    };
+    assert_eq!(rt; settings.cells(), 65_536);
+    assert!(rt; settings.password().is_none());
+    for (id, capcode, function) in DIGITS {
+        let found = settings
+            .find(id.as_bytes())
+            .map(|s| (s.capcode.number(), s.function));
+        assert_eq!(rt; found, Some((capcode, function)), "{id}");
+    }
+    for id in NO_DIGITS {
+        assert!(rt; settings.find(id.as_bytes()).is_none(), "{id}");
     }
     Ok(())
 }
