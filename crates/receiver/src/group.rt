@@ -145,6 +145,7 @@ impl Group {
 
     /// Takes the first bits of a piece: up to a bit that completes a page, or all. Answers the page, and None exactly where none is
     /// complete. No shorter front of these bits completes a page. Counts one step for the word of each slot that they complete.
+    #[inline(always)]
     pub fn feed_piece<L: Ledger>(
         &mut self,
         piece: &mut Piece,
