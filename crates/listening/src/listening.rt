@@ -38,6 +38,7 @@ pub trait Listener {
 }
 
 /// Hears a whole piece, of fewer than 2^32 bits with those before it.
+#[inline(always)]
 pub fn hear_all<P: Listener, O: Sink>(
     piece: Piece,
     listener: &mut P,

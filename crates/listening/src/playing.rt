@@ -28,6 +28,7 @@ impl Listener for Group {
 
     ghost fed = { λ g bits. StandsFor g bits };
 
+    #[inline(always)]
     fn hear<O: Sink>(&mut self, piece: &mut Piece, out: &mut O) -> Result<(), Failed> {
         let mut steps = Steps::<Work>::new();
         let Some(page) = self.feed_piece(piece, &mut steps) else {

@@ -1,5 +1,5 @@
 -- Capcodes in an ordered map, and the sets of numbers there.
-use Rattle.std.proofs.Common.{◌≡◌, ℕ, zero, suc, ◌+◌, ◌-◌, ◌*◌, ◌%◌, ◌^◌, ◌≤◌, ◌<◌, w64, bit_or, Bool, true, false, ◌==◌, ◌||◌, ◌&&◌, cond, List, [], ◌∷◌, length, take, get_or, Option, Some, None, SomeIff, refl, sym, ◌∙◌, ap, ap₂, inl, inr, eq-eqb, ne_eqb, arith}
+use Rattle.std.proofs.Common.{◌≡◌, ℕ, zero, suc, ◌+◌, ◌-◌, ◌*◌, ◌%◌, ◌^◌, ◌≤◌, ◌<◌, w64, bit_or, Bool, true, false, ◌==◌, ◌||◌, ◌&&◌, cond, List, [], ◌∷◌, length, take, get_or, Option, Some, None, SomeIff, refl, sym, ◌∙◌, ap, ap₂, subst, inl, inr, eq-eqb, ne_eqb, arith}
 use Rattle.std.proofs.lemmas.Bool.{cases_lt, cases_eq, lt-ltb, le-ltb}
 use Rattle.std.proofs.lemmas.List.Folds.{list_any_more}
 use Rattle.std.specs.List.{list_any}
@@ -151,10 +151,11 @@ pub key_added : (old new : List (ℕ × ℕ)) (key capcode set : ℕ) → key �
 key_added old new key capcode set same u c = key_added-key old new key set u c ∙ ap (λ (k : ℕ). is_one_of (keys_of old) c || (k == c)) same
 
 -- the usable ones stay usable
-pub key_usable : (old new : List ℕ) (key : ℕ) → IsUsable key → ((c : ℕ) → is_one_of new c ≡ (is_one_of old c || (key == c)))
-    → ((c : ℕ) → is_one_of old c ≡ true → IsUsable c) → (c : ℕ) → is_one_of new c ≡ true → IsUsable c
-key_usable old new key usable updates before c h = elim (cases_eq c key) [
-  | inl same ↦ rw same usable
+-- what holds of a key and of the keys before it holds of all keys
+pub key_has : (P : ℕ → Type 0) (old new : List ℕ) (key : ℕ) → P key → ((c : ℕ) → is_one_of new c ≡ (is_one_of old c || (key == c)))
+    → ((c : ℕ) → is_one_of old c ≡ true → P c) → (c : ℕ) → is_one_of new c ≡ true → P c
+key_has P old new key holds updates before c h = elim (cases_eq c key) [
+  | inl same ↦ subst P (sym same) holds
   | inr apart ↦ before c (sym (updates c ∙ ap (λ (t : Bool). is_one_of old c || t) (ne_eqb key c (λ e. apart (sym e))) ∙ or_false (is_one_of old c)) ∙ h)
 ]
 

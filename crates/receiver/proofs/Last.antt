@@ -1,5 +1,5 @@
 -- Nothing is complete before the last of the bits that a front end takes of a piece.
-use Rattle.std.proofs.Common.{◌≡◌, ◌≢◌, ℕ, ◌+◌, ◌-◌, ◌<◌, ◌≤◌, ◌⊎◌, inl, inr, Bool, true, false, List, [], ◌∷◌, ◌++◌, length, length-append, length-drop, drop, Option, Some, None, arith, refl, sym, ◌∙◌, ap, subst, append_assoc, append-nil}
+use Rattle.std.proofs.Common.{◌≡◌, ℕ, ◌-◌, ◌⊎◌, inl, inr, Bool, true, false, List, [], ◌∷◌, ◌++◌, length, length-append, length-drop, drop, Option, Some, None, arith, refl, sym, ◌∙◌, ap, append_assoc, append-nil}
 use Rattle.receiver.specs.Registers.{last_32}
 use Rattle.receiver.specs.Stretches.{after_sync}
 use Rattle.receiver.specs.Slots.{entries}
@@ -8,7 +8,7 @@ use Rattle.receiver.specs.Locks.{Hunts}
 use Rattle.receiver.specs.Fronts.{FrontEnd, front_end_of, FrontStandsFor, HasUnderWay, page_under_way}
 use Rattle.receiver.specs.Last.{IsShorterFront}
 use Rattle.receiver.specs.Listeners.{Listener, StandsFor, is_one_of}
-use Rattle.receiver.specs.Steps.{HuntsOn, Finds, HuntsThrough}
+use Rattle.receiver.specs.Steps.{HuntsThrough}
 use Rattle.receiver.specs.declared.front.FrontEvent.TheVariants.{Still}
 use Rattle.wires.specs.Fronts.{IsFront}
 use Rattle.wires.specs.Pieces.{taken_of}
@@ -16,7 +16,7 @@ use Rattle.wires.proofs.Pieces.{taken_twice}
 use Rattle.receiver.proofs.Feeding.{Feeds, Joined, shows_fed, hears_fed, still_hunting, still_locked}
 use Rattle.receiver.proofs.Growing.{heard-grow}
 use Rattle.receiver.proofs.Hunts.{last_32-push}
-use Rattle.receiver.proofs.Pieces.{Fed, both_parts}
+use Rattle.receiver.proofs.Pieces.{Fed}
 use Rattle.receiver.proofs.Stretches.{after_sync-append}
 
 -- whatever shorter front of these bits comes, the front end meets nothing

@@ -6,7 +6,7 @@ use Rattle.bits.proofs.Numbers.{bits_of-number_from, number_from-bits_of}
 use Rattle.bits.proofs.Registers.{push_register, push_short, push_full, bits_of-mod}
 use Rattle.std.proofs.lemmas.Nat.{pow_pos, or_shifted}
 use Rattle.std.proofs.Math.Nat.{mul-lt-mul_of_pos_right, mul-le-mul_left, pow-le-pow_right}
-use Rattle.std.proofs.lemmas.List.{take-append-drop}
+use Rattle.std.proofs.lemmas.List.{take-append-drop, take_all}
 use Rattle.wires.specs.Pieces.{taken_of}
 use Rattle.wires.proofs.Pieces.{taken_is}
 use Rattle.receiver.specs.Registers.{last_32}
@@ -65,3 +65,10 @@ pub first_taken : (n : ℕ) (piece left : List Bool) → left ≡ drop n piece �
 first_taken n piece left e =
     let whole : piece ≡ take n piece ++ left = sym (take-append-drop n piece) ∙ ap (λ (xs : List Bool). take n piece ++ xs) (sym e) in
     (whole, taken_is piece (take n piece) left whole)
+
+-- a whole piece taken by a register that held no bit
+pub word_taken : (count bits : ℕ) (view word piece left : List Bool) → bits_of count bits ≡ view → count ≡ 0 → word ≡ piece → left ≡ [] → word ≡ view ++ taken_of piece left
+unfolding bits_of
+word_taken count bits view word piece left v z w l =
+    let e : view ≡ [] = sym v ∙ ap (λ (k : ℕ). bits_of k bits) z in
+    w ∙ sym (ap₂ (λ (xs ys : List Bool). xs ++ taken_of piece ys) e l ∙ take_all (length piece - 0) piece (omega arith))

@@ -1,5 +1,5 @@
 -- Receivers with numbers from 1 to 64, each with a set of capcodes.
-use Rattle.std.specs.Prelude.{ℕ, zero, suc, ◌==◌, Bool, false, ◌&&◌, List, filter, Option, Some, None}
+use Rattle.std.specs.Prelude.{ℕ, zero, suc, ◌==◌, ◌%◌, Bool, false, ◌&&◌, List, slice_index_or, filter, Option, Some, None}
 use Rattle.std.specs.List.{list_any, range_with_len}
 use Rattle.std.specs.Map.{lookup}
 use Rattle.std.specs.Int.{bit_at}
@@ -41,3 +41,7 @@ numbers_from set start count = filter (is_in_set set) (range_with_len start coun
 -- the numbers from 1 to 64 in a set, in ascending order
 abbrev pub numbers_in : ℕ → List ℕ
 numbers_in set = numbers_from set 1 most_receivers
+
+-- a number has a mark: the one at the place that its twelve lowest bits say
+abbrev pub is_marked : List Bool → ℕ → Bool
+is_marked marks number = slice_index_or marks (number % 4096) false

@@ -204,6 +204,7 @@ impl Front {
 
     /// Takes the first bits of a piece, up to the first that isn't Still, or all. No shorter front of them completes a sync word, a slot or a
     /// page.
+    #[inline(always)]
     pub fn feed_piece(&mut self, piece: &mut Piece) -> FrontEvent
         ensures shows { (bits : List Bool) → FrontStandsFor self.old bits → Shows self.new result bits (bits ++ taken_of piece.old piece.new) }
         ensures hears { (listens : ℕ → Bool) (page : Option HeardPage) (bits : List Bool) → HasUnderWay listens self.old page bits

@@ -13,6 +13,7 @@ ghost use Rattle.wires.specs.Pieces.{taken_of};
 
 use crate::front::Front;
 use crate::gathering::{CapcodeSet, Gathering};
+use crate::marks::Marks;
 use crate::ready::Ready;
 use codeword::Capcode;
 use page_text::LONGEST_READ;
@@ -31,19 +32,22 @@ const MOST_RECEIVERS: u32 = 64;
 #[derive(Drop)]
 struct Holders {
     sets: BTreeMap<u32, u64, Global>,
+    /// Each of these capcodes is marked. Few others have a mark, so that most of them aren't looked up.
+    marks: Marks,
 }
 
 impl Model for Holders {
     ghost use Rattle.std.specs.Prelude.{◌≡◌, ℕ, List, true};
     ghost use Rattle.codeword.specs.Capcodes.{IsUsable};
     ghost use Rattle.receiver.specs.Listeners.{is_one_of};
+    ghost use Rattle.receiver.specs.Receivers.{is_marked};
     ghost use Rattle.std.specs.BTreeMap.{keys};
 
     ghost Value = { List (ℕ × ℕ) };
 
     ghost view = { λ h. h.sets.entries };
 
-    ghost invariant = { λ h. (c : ℕ) → is_one_of (keys h.sets) c ≡ true → IsUsable c };
+    ghost invariant = { λ h. ((c : ℕ) → is_one_of (keys h.sets) c ≡ true → IsUsable c) × ((c : ℕ) → is_one_of (keys h.sets) c ≡ true → is_marked h.marks c ≡ true) };
 }
 
 impl Holders {
@@ -63,6 +67,9 @@ impl CapcodeSet for Holders {
 
     fn find(&self, number: u32) -> Option<Capcode> {
         let sets = &self.sets;
+        if !self.marks.has(number) {
+            return None;
+        }
         let Some(capcode) = Capcode::of(number) else {
             return None;
         };
@@ -107,14 +114,16 @@ impl Group {
         ensures stands { IfOk result (λ g. StandsFor g []) }
     {
         let mut sets = BTreeMap::new(alloc);
+        let mut marks = Marks::none();
         for (number, capcode) in pairs {
             if let Err(Memory) = add_holder(&mut sets, *number, *capcode) {
                 return Err(Memory);
             }
+            marks.mark(capcode.number());
         }
         Ok(Group {
             front: Front::new(),
-            holders: Holders { sets },
+            holders: Holders { sets, marks },
             gathering: Gathering::new(),
         })
     }
@@ -145,6 +154,7 @@ impl Group {
 
     /// Takes the first bits of a piece: up to a bit that completes a page, or all. Answers the page, and None exactly where none is
     /// complete. No shorter front of these bits completes a page. Counts one step for the word of each slot that they complete.
+    #[inline(always)]
     pub fn feed_piece<L: Ledger>(
         &mut self,
         piece: &mut Piece,

@@ -11,6 +11,7 @@
 //! - `ready`: what is answered of a page that is complete.
 //! - `receiver`: a receiver of one to four capcodes.
 //! - `group`: receivers with numbers, each with its capcodes, and one front end for all.
+//! - `marks`: marks of capcodes, so that most numbers of capcodes that no receiver has aren't looked up.
 //! - `laws`: where a hunt over a preamble finds the sync word, and that what was heard stays when more bits come.
 //!
 //! `specs/Stretches.antt` cuts a list of bits into stretches of lock, `specs/Slots.antt` gives their slots and the table of what was
@@ -21,6 +22,7 @@ pub mod front;
 mod gathering;
 pub mod group;
 pub mod laws;
+mod marks;
 pub mod ready;
 pub mod receiver;
 mod register;

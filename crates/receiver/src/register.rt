@@ -57,6 +57,32 @@ impl Register {
         ensures few { length self.new ≤ 32 }
         ensures end { length self.new < 32 → piece.new ≡ [] }
     {
+        if self.count == 0 && piece.len() == WORD_BITS {
+            self.take_word(piece);
+        } else {
+            self.add(piece);
+        }
+    }
+
+    /// Holds the bits of a piece of 32, and takes them all.
+    #[inline(always)]
+    fn take_word(&mut self, piece: &mut Piece)
+        requires { length piece.old ≡ 32 }
+        ensures word { self.new ≡ piece.old }
+        ensures none { piece.new ≡ [] }
+    {
+        self.bits = piece.take(WORD_BITS) as u32;
+        self.count = WORD_BITS;
+    }
+
+    /// Adds the first bits of a piece to those that it holds: as many as it has room for, or all.
+    #[inline(always)]
+    fn add(&mut self, piece: &mut Piece)
+        ensures joined { self.new ≡ self.old ++ taken_of piece.old piece.new }
+        ensures whole { piece.old ≡ taken_of piece.old piece.new ++ piece.new }
+        ensures few { length self.new ≤ 32 }
+        ensures end { length self.new < 32 → piece.new ≡ [] }
+    {
         let room = WORD_BITS - self.count;
         let count = room.min(piece.len());
         let first = piece.take(count);

@@ -165,6 +165,7 @@ impl<S: Source> ByteBits<S> {
     }
 
     /// Reads on, where no bit is ready.
+    #[inline(never)]
     fn fill(&mut self) -> Result<(), Failed>
         requires { self.old.ready ≡ [] }
         ensures { Fills (bits_left self.old.ready (S.state self.old.source)) (bits_left self.new.ready (S.state self.new.source)) self.new.ready result }
@@ -187,6 +188,7 @@ impl<S: Source> BitSource for ByteBits<S> {
         Ok(self.ready.pop())
     }
 
+    #[inline(always)]
     fn piece(&mut self, most: u32) -> Result<Piece, Failed> {
         let piece = self.ready.piece(most);
         if !piece.is_empty() {
@@ -226,6 +228,7 @@ impl<'a, F: Shelf> ShelfBits<'a, F> {
     }
 
     /// Reads on, where no bit is ready.
+    #[inline(never)]
     fn fill(&mut self) -> Result<(), Failed>
         requires { self.old.ready ≡ [] }
         ensures { Fills (shelf_bits self.old.shelf.ghost_name self.old.name.now self.old.ready self.old.from (F.state self.old.shelf.now))
@@ -250,6 +253,7 @@ impl<'a, F: Shelf> BitSource for ShelfBits<'a, F> {
         Ok(self.ready.pop())
     }
 
+    #[inline(always)]
     fn piece(&mut self, most: u32) -> Result<Piece, Failed> {
         let piece = self.ready.piece(most);
         if !piece.is_empty() {

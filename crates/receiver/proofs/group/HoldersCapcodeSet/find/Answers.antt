@@ -8,7 +8,7 @@ use Rattle.receiver.proofs.group.HoldersCapcodeSet.find.Goals as goal
 pub returns-in_default : goal.returns-in_default
 returns-in_default c =
     ap (λ (es : List (ℕ × ℕ)). is_one_of (keys_of es) c.args.number) (sym c.self.view_is)
-    ∙ none_found (keys c.self.inside.sets) c.args.number c.self.invariant c.in_default.ensures
+    ∙ none_found (keys c.self.inside.sets) c.args.number c.self.invariant.0 c.in_default.ensures
 
 pub returns-then-contains_key : goal.returns-then-contains_key
 returns-then-contains_key c = (

@@ -1,7 +1,7 @@
 use Rattle.std.proofs.Common.{List, [], Option, refl, sym, ◌∙◌, ap, subst, rules}
 use Rattle.receiver.specs.FrontSteps.{page_after, completed_by}
 use Rattle.receiver.specs.Heard.{HeardPage}
-use Rattle.receiver.specs.Listeners.{Listener, is_one_of, listener_of, ready_pages}
+use Rattle.receiver.specs.Listeners.{Listener, is_one_of, listener_of}
 use Rattle.wires.specs.Pieces.{taken_of}
 use Rattle.receiver.proofs.Last.{last_page}
 use Rattle.receiver.proofs.Meets.{Met, fed_met}
