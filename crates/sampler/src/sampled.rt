@@ -56,6 +56,19 @@ impl<B: BitSource> Sampled<B> {
         Ok(self.beyond())
     }
 
+    /// Gives back the source of the samples, as it stands.
+    pub fn into_samples(self) -> B
+        ensures { result ≡ self.samples }
+    {
+        let Sampled {
+            samples,
+            limit: _,
+            counter: _,
+            further: _,
+        } = self;
+        samples
+    }
+
     /// Sees to it that a sample is ready, where one is left, and answers whether one is. At the limit it asks for a
     /// further sample.
     #[inline(always)]

@@ -1,7 +1,7 @@
 //! The command lines: docs/profile.md, "command lines".
 
 ghost use Rattle.std.specs.Prelude.{◌≡◌, ℕ, List, MatchOption};
-ghost use Rattle.station.specs.Commands.{AreCommand, AreOne, ArePlay, AreSend, AreShow, AreStation, AreTrial, IsCountWord, texts};
+ghost use Rattle.station.specs.Commands.{AreCommand, AreOne, ArePlay, AreSend, AreShow, AreStation, AreLine, AreTrial, IsCountWord, IsSeedWord, texts};
 ghost use Rattle.station.specs.Meant.{meant};
 
 use crate::capcodes::capcode_of;
@@ -15,6 +15,10 @@ pub(crate) enum CommandLine<'a> {
     One(Capcode),
     /// `play AIR RECEIVER ..`
     Play(&'a str, Receivers),
+    /// `play-line LINE RECEIVER ..`
+    PlayLine(&'a str, Receivers),
+    /// `line AIR LINE SEED`
+    WriteLine(&'a str, &'a str, u64),
     /// `show AIR`
     Show(&'a str),
     /// `station ADDRESS SETTINGS AIR N`
@@ -51,6 +55,32 @@ fn count_of(word: &str) -> Option<u32>
         return None;
     }
     Some(count)
+}
+
+/// The number below 2^64 that a word of decimal digits says, without sign. None exactly where it says none.
+fn seed_of(word: &str) -> Option<u64>
+    ensures { MatchOption result ((seed : ℕ) → IsSeedWord word.now seed → ⊥) (λ seed. IsSeedWord word.now seed) }
+{
+    if word.starts_with('+') {
+        return None;
+    }
+    word.parse::<u64>().ok()
+}
+
+/// Reads what follows `line`.
+fn line_words(words: &[String]) -> Option<(&str, &str, u64)>
+    ensures { MatchOption result ((air line : List ℕ) (seed : ℕ) → AreLine (texts words.now) air line seed → ⊥) (λ line. AreLine (texts words.now) line.0.now line.1.now line.2) }
+{
+    let [air, line, seed] = words else {
+        return None;
+    };
+    if air.is_empty() || line.is_empty() || air.as_str() == line.as_str() {
+        return None;
+    }
+    let Some(seed) = seed_of(seed.as_str()) else {
+        return None;
+    };
+    Some((air.as_str(), line.as_str(), seed))
 }
 
 /// Reads what follows `station`.
@@ -129,7 +159,7 @@ fn show_line(words: &[String]) -> Option<&str>
     Some(air)
 }
 
-/// Reads what follows `play`.
+/// Reads what follows `play` or `play-line`.
 fn play_line(words: &[String]) -> Option<(&str, Receivers)>
     ensures { MatchOption result ((air : List ℕ) (receivers : List (List ℕ)) → ArePlay (texts words.now) air receivers → ⊥) (λ line. ArePlay (texts words.now) line.0.now line.1) }
 {
@@ -156,6 +186,14 @@ pub(crate) fn parse(words: &[String]) -> Option<CommandLine<'_>>
         },
         "play" => match play_line(rest) {
             Some((air, receivers)) => Some(CommandLine::Play(air, receivers)),
+            None => None,
+        },
+        "play-line" => match play_line(rest) {
+            Some((line, receivers)) => Some(CommandLine::PlayLine(line, receivers)),
+            None => None,
+        },
+        "line" => match line_words(rest) {
+            Some((air, line, seed)) => Some(CommandLine::WriteLine(air, line, seed)),
             None => None,
         },
         "show" => match show_line(rest) {

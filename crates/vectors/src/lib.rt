@@ -8,7 +8,8 @@
 //! - `pools`: a pool that is full.
 //! - `runs`: a run of the program over objects in memory, and `airs`, the bytes of transmissions.
 //! - `one_page`: runs of `one`.
-//! - `receivers`: runs of `play` and `show`.
+//! - `lines`: runs of `line`, and what `play-line` then prints.
+//! - `receivers`: runs of `play`, `play-line` and `show`.
 //! - `sessions`: runs of `station`, what `play` then prints, and `accepted` and `refused`, the tables of these sessions.
 //! - `cuts`: one session in every cut.
 //! - `long_sessions`: sessions of very many blocks or characters.
@@ -17,7 +18,7 @@
 //! - `trials`: runs of `trial`.
 //! - `clients`: runs of `send`.
 //! - `refusals`: words that are no command, files that are not there, and settings files that are refused.
-//! - `long_files`: the longest file that is played, and a longer one.
+//! - `long_files`: the longest files that are played, and longer ones.
 #![tactic(auto)]
 
 #[cfg(test)]
@@ -34,6 +35,8 @@ mod clients;
 mod cuts;
 #[cfg(test)]
 mod failing_calls;
+#[cfg(test)]
+mod lines;
 #[cfg(test)]
 mod long_files;
 #[cfg(test)]
