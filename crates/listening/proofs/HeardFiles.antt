@@ -17,11 +17,11 @@ use Rattle.listening.proofs.WellListened.{listened_well}
 abbrev pub holding : List Held → Left Bool → Left Bool
 holding held b = record { tells = b.tells; left = b.left; there = b.there; steady = b.steady; faults = b.faults; lent = held }
 
-took_holding : (held : List Held) (a b : Left Bool) (bits : List Bool) → Took a b bits → Took (holding held a) (holding held b) bits
+pub took_holding : (held : List Held) (a b : Left Bool) (bits : List Bool) → Took a b bits → Took (holding held a) (holding held b) bits
 took_holding held a b bits h = record { tells = h.tells; left = h.left; there = h.there; steady = h.steady; faults = h.faults; lent = refl }
 
 -- what was listened to doesn't depend on what the bits hold
-listens_holding : (printed : List Bool → List ℕ) (held : List Held) (a b : Left Bool) (o0 o : Written ℕ) (status : Status) → HasListened printed a b o0 o status
+pub listens_holding : (printed : List Bool → List ℕ) (held : List Held) (a b : Left Bool) (o0 o : Written ℕ) (status : Status) → HasListened printed a b o0 o status
     → HasListened printed (holding held a) (holding held b) o0 o status
 listens_holding printed held a b o0 o Done h = record { bits = h.bits; took = took_holding held a b h.bits h.took; there = h.there; whole = h.whole; few = h.few; wrote = h.wrote }
 listens_holding printed held a b o0 o TooLong h = record {
@@ -54,7 +54,7 @@ listens_holding printed held a b o0 o Memory h = h
 listens_holding printed held a b o0 o BadPages h = h
 
 -- what the bits told of whether they tell, and what they hold of others, is as it was
-kept : (printed : List Bool → List ℕ) (a b : Left Bool) (o0 o : Written ℕ) (status : Status) → HasListened printed a b o0 o status → (b.tells ≡ a.tells) × (b.lent ≡ a.lent)
+pub kept : (printed : List Bool → List ℕ) (a b : Left Bool) (o0 o : Written ℕ) (status : Status) → HasListened printed a b o0 o status → (b.tells ≡ a.tells) × (b.lent ≡ a.lent)
 kept printed a b o0 o Done h = (h.took.tells, h.took.lent)
 kept printed a b o0 o TooLong h = (h.took.tells, h.took.lent)
 kept printed a b o0 o FileFault h = (h.failed.tells, h.failed.lent)

@@ -1,5 +1,7 @@
+pub mod FewBits
 pub mod HeardFiles
 pub mod HeardFronts
+pub mod HeardSamples
 pub mod LeftBits
 pub mod Listens
 pub mod NoisyHeard

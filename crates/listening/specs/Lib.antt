@@ -1,4 +1,5 @@
 pub mod HeardFile
+pub mod HeardLine
 pub mod Listening
 pub mod Noise
 pub mod PageLines

@@ -4,7 +4,7 @@
 //! - `playing`: the lines that receivers print, and `play` and `show` over any bits.
 //! - `table`: the table of the sync words and slots that are heard, for `show`.
 //! - `noise`: hearing bits through a noise.
-//! - `hearing`: `play` and `show` over the bits of a file.
+//! - `hearing`: `play` and `show` over the bits of a file, and `play` over the bits of the samples in one.
 #![tactic(auto)]
 
 pub mod hearing;
@@ -13,5 +13,5 @@ pub mod noise;
 pub mod playing;
 pub mod table;
 
-pub use hearing::{play_file, show_file};
+pub use hearing::{play_file, play_samples, show_file};
 pub use playing::{play, show};

@@ -12,7 +12,7 @@ use wires::sink::Sink;
 use wires::source::BitSource;
 
 /// So many bits are listened to: those of 67,108,864 bytes.
-const MOST_BITS: u32 = 8 * 67_108_864;
+pub(crate) const MOST_BITS: u32 = 8 * 67_108_864;
 
 /// The most bits that are read at a time.
 pub const MOST_AT_A_TIME: u32 = 32;

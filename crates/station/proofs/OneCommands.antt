@@ -1,26 +1,28 @@
 -- Words are one command's at most.
-use Rattle.std.proofs.Common.{◌≡◌, ℕ, List, [], ◌∷◌, Option, Some, None, get_or, refl, sym, ◌∙◌, ap, ap₂, arith}
-use Rattle.station.specs.Commands.{AreCommand, AreOne, ArePlay, AreSend, AreShow, AreStation, AreTrial, Command, IsCommand, IsReceiverWord, One, Play, Say, Send, Show, Station, Trial}
+use Rattle.std.proofs.Common.{◌≡◌, ℕ, ◌+◌, List, [], ◌∷◌, Option, Some, None, get_or, length, refl, sym, ◌∙◌, ap, ap₂, arith}
+use Rattle.station.specs.Commands.{AreCommand, AreOne, ArePlay, AreSend, AreShow, AreStation, AreTrial, Command, IsCommand, IsReceiverWord, One, Play, PlayLine, Say, Send, Show, Station, Trial}
 use Rattle.station.proofs.ListedCapcodes.{one_receiver}
 use Rattle.station.proofs.Saying.{Say-one}
 
--- the second letter of a command's name
-letter : Command → ℕ
-letter (One capcode) = 110
-letter (Play air receivers) = 108
-letter (Show air) = 104
-letter (Station address settings air count) = 116
-letter (Trial settings noise receivers) = 114
-letter (Send address pages) = 101
+-- the second letter of a command's name, and its length, added
+mark : Command → ℕ
+mark (One capcode) = 113
+mark (Play air receivers) = 112
+mark (PlayLine line receivers) = 117
+mark (Show air) = 108
+mark (Station address settings air count) = 123
+mark (Trial settings noise receivers) = 119
+mark (Send address pages) = 105
 
-letter_is : (name : List ℕ) (words : List (List ℕ)) (command : Command) → IsCommand (name ∷ words) command → get_or name 1 0 ≡ letter command
-unfolding letter
-letter_is name words (One capcode) h = ap (λ (l : List ℕ). get_or l 1 0) h.0
-letter_is name words (Play air receivers) h = ap (λ (l : List ℕ). get_or l 1 0) h.0
-letter_is name words (Show air) h = ap (λ (l : List ℕ). get_or l 1 0) h.0
-letter_is name words (Station address settings air count) h = ap (λ (l : List ℕ). get_or l 1 0) h.0
-letter_is name words (Trial settings noise receivers) h = ap (λ (l : List ℕ). get_or l 1 0) h.0
-letter_is name words (Send address pages) h = ap (λ (l : List ℕ). get_or l 1 0) h.0
+mark_is : (name : List ℕ) (words : List (List ℕ)) (command : Command) → IsCommand (name ∷ words) command → get_or name 1 0 + length name ≡ mark command
+unfolding mark
+mark_is name words (One capcode) h = ap (λ (l : List ℕ). get_or l 1 0 + length l) h.0
+mark_is name words (Play air receivers) h = ap (λ (l : List ℕ). get_or l 1 0 + length l) h.0
+mark_is name words (PlayLine line receivers) h = ap (λ (l : List ℕ). get_or l 1 0 + length l) h.0
+mark_is name words (Show air) h = ap (λ (l : List ℕ). get_or l 1 0 + length l) h.0
+mark_is name words (Station address settings air count) h = ap (λ (l : List ℕ). get_or l 1 0 + length l) h.0
+mark_is name words (Trial settings noise receivers) h = ap (λ (l : List ℕ). get_or l 1 0 + length l) h.0
+mark_is name words (Send address pages) h = ap (λ (l : List ℕ). get_or l 1 0 + length l) h.0
 
 one_receivers : (words a b : List (List ℕ)) → Say IsReceiverWord words a → Say IsReceiverWord words b → b ≡ a
 one_receivers words a b h k = Say-one IsReceiverWord one_receiver words a b h k
@@ -33,6 +35,10 @@ one_one (word ∷ other ∷ words) a b h k = elim h [ ]
 one_play : (words : List (List ℕ)) (air air2 : List ℕ) (rs rs2 : List (List ℕ)) → ArePlay words air rs → ArePlay words air2 rs2 → Play air2 rs2 ≡ Play air rs
 one_play [] air air2 rs rs2 h k = elim h [ ]
 one_play (word ∷ words) air air2 rs rs2 h k = ap₂ Play (sym k.0 ∙ h.0) (one_receivers words rs rs2 h.2.say k.2.say)
+
+one_play_line : (words : List (List ℕ)) (line line2 : List ℕ) (rs rs2 : List (List ℕ)) → ArePlay words line rs → ArePlay words line2 rs2 → PlayLine line2 rs2 ≡ PlayLine line rs
+one_play_line [] line line2 rs rs2 h k = elim h [ ]
+one_play_line (word ∷ words) line line2 rs rs2 h k = ap₂ PlayLine (sym k.0 ∙ h.0) (one_receivers words rs rs2 h.2.say k.2.say)
 
 one_show : (words : List (List ℕ)) (air air2 : List ℕ) → AreShow words air → AreShow words air2 → Show air2 ≡ Show air
 one_show [] air air2 h k = elim h [ ]
@@ -61,15 +67,16 @@ one_station (w ∷ v ∷ u ∷ t ∷ []) a a2 s s2 f f2 n n2 h k =
 one_station (w ∷ v ∷ u ∷ t ∷ r ∷ words) a a2 s s2 f f2 n n2 h k = elim h [ ]
 
 one_some : (words : List (List ℕ)) (a b : Command) → IsCommand words a → IsCommand words b → b ≡ a
-unfolding letter
+unfolding mark
 one_some [] a b h k = elim h [ ]
 one_some (name ∷ words) (One a) (One b) h k = one_one words a b h.1 k.1
 one_some (name ∷ words) (Play a c) (Play b d) h k = one_play words a b c d h.1 k.1
+one_some (name ∷ words) (PlayLine a c) (PlayLine b d) h k = one_play_line words a b c d h.1 k.1
 one_some (name ∷ words) (Show a) (Show b) h k = one_show words a b h.1 k.1
 one_some (name ∷ words) (Station a s f n) (Station a2 s2 f2 n2) h k = one_station words a a2 s s2 f f2 n n2 h.1 k.1
 one_some (name ∷ words) (Trial s n c) (Trial s2 n2 c2) h k = one_trial words s s2 n n2 c c2 h.1 k.1
 one_some (name ∷ words) (Send a p) (Send b q) h k = one_send words a b p q h.1 k.1
-one_some (name ∷ words) a b h k = let e = letter_is name words a h in let f = letter_is name words b k in absurd (omega (arith, e, f))
+one_some (name ∷ words) a b h k = let e = mark_is name words a h in let f = mark_is name words b k in absurd (omega (arith, e, f))
 
 -- the words are one command's or none's
 pub one_command : (words : List (List ℕ)) (a b : Option Command) → AreCommand words a → AreCommand words b → b ≡ a

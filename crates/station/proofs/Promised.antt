@@ -26,6 +26,7 @@ use Rattle.wires.specs.Left.{Left}
 use Rattle.wires.specs.Line.{Line}
 use Rattle.wires.specs.Stacked.{noisy_bits}
 use Rattle.wires.specs.Written.{Written}
+use Rattle.sampler.proofs.Line.{line_back}
 use Rattle.station.proofs.AcceptablePages.{are_acceptable}
 use Rattle.station.proofs.Pairs.{has-listed}
 use Rattle.near.proofs.NearAir.{near_air}
@@ -33,9 +34,9 @@ use Rattle.serving.proofs.WholeSessions.{turn-wholes}
 use Rattle.station.specs.declared.outcomes.Outcome.{Outcome}
 use Rattle.station.specs.declared.outcomes.Outcome.TheVariants.{Ended, Misread, Refused}
 use Rattle.endings.specs.declared.statuses.Status.TheVariants.{Done, FileFault, OutFault, Usage, WireFault}
-use Rattle.station.specs.Commands.{AreCommand, Command, IsCapcodeWord, IsReceiverWord, One, Play, Say, Send, Show, Station, Trial, plus_parts}
+use Rattle.station.specs.Commands.{AreCommand, Command, IsCapcodeWord, IsReceiverWord, One, Play, PlayLine, Say, Send, Show, Station, Trial, plus_parts}
 use Rattle.near.specs.NearAir.{AreUsable}
-use Rattle.station.specs.Promises.{AcceptedWhileFit, AreAccepted, FaultPromise, FilePromise, HearNear, HearsTrial, ServedSend, StationPromise, TrialPromise, accepted_in}
+use Rattle.station.specs.Promises.{AcceptedWhileFit, AreAccepted, FaultPromise, FilePromise, HearLists, HearNear, HearNearLine, HearsTrial, ServedSend, StationPromise, TrialPromise, accepted_in}
 use Rattle.station.specs.ReadFile.{ReadSettings, Unreadable}
 use Rattle.station.specs.Rows.{Acts, Objects, Promises}
 use Rattle.serving.specs.Served.{AllFrom, IsWhole, Served, ServedInTurn, airs}
@@ -73,6 +74,10 @@ HearNear-from receivers bits u lists h near number f some most =
     let has = has_of receivers in
     ap (pages_of_frame f) (shown_by-shown has number (map with_text (heard (is_one_of (concat receivers)) bits)) some most)
     ∙ near_air (is_one_of (concat receivers)) lists bits u h near (has number) f (λ c held. has-listed receivers number c held)
+
+HearNearLine-from : (receivers : List (List ℕ)) (samples : List Bool) → AreUsable (is_one_of (concat receivers)) → HearNearLine receivers samples
+HearNearLine-from receivers samples u lists bits h near line short =
+    subst (λ (heard : List Bool). HearLists receivers lists heard) (sym (line_back bits samples line short)) (HearNear-from receivers bits u lists h near)
 
 -- ---- a trial
 
@@ -209,6 +214,10 @@ promised [] (Some (Play air receivers)) old new outcome acts h = elim h [ ]
 promised (name ∷ []) (Some (Play air receivers)) old new outcome acts h = elim h.1 [ ]
 promised (name ∷ w ∷ words) (Some (Play air receivers)) old new outcome acts h =
     HearNear-from receivers (bytes_bits (old.shelf.file air)) (AreUsable-words words receivers h.1.2.say)
+promised [] (Some (PlayLine line receivers)) old new outcome acts h = elim h [ ]
+promised (name ∷ []) (Some (PlayLine line receivers)) old new outcome acts h = elim h.1 [ ]
+promised (name ∷ w ∷ words) (Some (PlayLine line receivers)) old new outcome acts h =
+    HearNearLine-from receivers (bytes_bits (old.shelf.file line)) (AreUsable-words words receivers h.1.2.say)
 promised words (Some (Show air)) old new outcome acts h = tt
 promised words (Some (Send address pages)) old new outcome acts h = tt
 promised words (Some (Station address settings air count)) old new outcome acts h = station_promise address settings air count _ _ outcome acts.row

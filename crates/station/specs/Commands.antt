@@ -11,6 +11,8 @@ pub data Command : Type 0 where
   One : ℕ → Command
   -- play AIR RECEIVER ..: prints the pages that receivers, each of these capcodes, hear in the bits of this file
   Play : List ℕ → List (List ℕ) → Command
+  -- play-line LINE RECEIVER ..: prints the pages that receivers, each of these capcodes, hear in the bits of the samples in this file
+  PlayLine : List ℕ → List (List ℕ) → Command
   -- show AIR: prints the sync words and slots that are heard in the bits of this file
   Show : List ℕ → Command
   -- station ADDRESS SETTINGS AIR N: serves so many connections at this address, by these settings, and keeps the air in this file
@@ -68,7 +70,7 @@ pub record IsCountWord (word : List ℕ) (count : ℕ) : Type 0 where
 abbrev pub IsName : List ℕ → Type 0
 IsName word = word ≢ []
 
--- what follows `play`, and what follows `show`
+-- what follows `play` and `play-line`, and what follows `show`
 abbrev pub ArePlay : List (List ℕ) → List ℕ → List (List ℕ) → Type 0
 ArePlay [] air receivers = ⊥
 ArePlay (word ∷ words) air receivers = (word ≡ air) × IsName air × AreReceiverWords words receivers
@@ -101,6 +103,7 @@ abbrev pub IsCommand : List (List ℕ) → Command → Type 0
 IsCommand [] command = ⊥
 IsCommand (name ∷ words) (One capcode) = (name ≡ codes "one") × AreOne words capcode
 IsCommand (name ∷ words) (Play air receivers) = (name ≡ codes "play") × ArePlay words air receivers
+IsCommand (name ∷ words) (PlayLine line receivers) = (name ≡ codes "play-line") × ArePlay words line receivers
 IsCommand (name ∷ words) (Show air) = (name ≡ codes "show") × AreShow words air
 IsCommand (name ∷ words) (Station address settings air count) = (name ≡ codes "station") × AreStation words address settings air count
 IsCommand (name ∷ words) (Trial settings noise receivers) = (name ≡ codes "trial") × AreTrial words settings noise receivers

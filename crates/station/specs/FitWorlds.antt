@@ -6,7 +6,7 @@ use Rattle.wires.specs.Left.{Left}
 use Rattle.wires.specs.Line.{Line}
 use Rattle.wires.specs.Stacked.{are_bytes}
 use Rattle.wires.specs.Written.{Written}
-use Rattle.station.specs.Commands.{Command, One, Play, Send, Show, Station, Trial}
+use Rattle.station.specs.Commands.{Command, One, Play, PlayLine, Send, Show, Station, Trial}
 use Rattle.station.specs.OneRun.{FitErr, FitRun}
 use Rattle.station.specs.Rows.{Objects, Outside, Streams}
 
@@ -46,6 +46,7 @@ abbrev pub HasFiles : Option Command → Objects → Type 0
 HasFiles None old = Unit {0}
 HasFiles (Some (One capcode)) old = Unit {0}
 HasFiles (Some (Play air receivers)) old = IsTrue (old.shelf.there air)
+HasFiles (Some (PlayLine line receivers)) old = IsTrue (old.shelf.there line)
 HasFiles (Some (Show air)) old = IsTrue (old.shelf.there air)
 HasFiles (Some (Station address settings air count)) old = IsTrue (old.shelf.there settings) × (IsTrue (old.shelf.there air) ⊎ (IsTrue old.shelf.further × (length air ≤ longest_name)))
 HasFiles (Some (Trial settings noise receivers)) old = IsTrue (old.shelf.there settings) × IsTrue (old.shelf.there noise)

@@ -2,6 +2,7 @@
 use Rattle.std.specs.Prelude.{◌≡◌, ◌≢◌, ℕ, ◌*◌, ◌≤◌, Bool, true, List, [], ◌∷◌, length, take, IsTrue}
 use Rattle.air.specs.Air.{IsAir}
 use Rattle.bits.specs.Bits.{bytes_bits}
+use Rattle.sampler.specs.Runs.{sampled_bits}
 use Rattle.tap_block.specs.Chars.{characters}
 use Rattle.wires.specs.Files.{Files}
 use Rattle.wires.specs.Stacked.{are_bytes}
@@ -11,7 +12,7 @@ use Rattle.station.specs.AlphaPage.{alpha_page}
 use Rattle.listening.specs.Listening.{most_bits}
 use Rattle.station.specs.LoneBlock.{HasText, IsMarkedBlock}
 use Rattle.listening.specs.PageLines.{play_lines}
-use Rattle.station.specs.Rows.{Objects, RunsOne, RunsPlay, RunsShow, Streams}
+use Rattle.station.specs.Rows.{Objects, RunsOne, RunsPlay, RunsPlayLine, RunsShow, Streams}
 use Rattle.listening.specs.Table.{table_of}
 use Rattle.endings.specs.Wrote.{FitFor}
 
@@ -38,6 +39,13 @@ bits_listened name shelf = take most_bits (bytes_bits (shelf.file name))
 abbrev pub OnePlay : Type 0
 OnePlay = (receivers : List (List ℕ)) (air : List ℕ) (old new other : Objects) (status another : Status) → FitFile air old.shelf → FitFor old.streams.out (play_lines receivers (bits_listened air old.shelf))
     → RunsPlay receivers air old new status → RunsPlay receivers air old other another → status ≢ Memory → another ≢ Memory
+    → (another ≡ status) × LeftAlike new other
+
+-- the same of `play-line`, where the bits are those of the samples in the first 67,108,864 bytes
+abbrev pub OnePlayLine : Type 0
+OnePlayLine = (receivers : List (List ℕ)) (line : List ℕ) (old new other : Objects) (status another : Status) → FitFile line old.shelf
+    → FitFor old.streams.out (play_lines receivers (sampled_bits (bits_listened line old.shelf)))
+    → RunsPlayLine receivers line old new status → RunsPlayLine receivers line old other another → status ≢ Memory → another ≢ Memory
     → (another ≡ status) × LeftAlike new other
 
 -- the same of `show`, which takes no memory

@@ -1,9 +1,10 @@
 -- Two runs of the same words over the same objects, where no call fails, come to the same.
 use Rattle.std.specs.Prelude.{◌≡◌, ◌≢◌, ℕ, ◌≤◌, List, length, Option, Some, None, IsTrue}
 use Rattle.station.specs.declared.outcomes.Outcome.{Outcome}
+use Rattle.sampler.specs.Runs.{sampled_bits}
 use Rattle.endings.specs.declared.statuses.Status.{Status}
 use Rattle.endings.specs.declared.statuses.Status.TheVariants.{Memory}
-use Rattle.station.specs.Commands.{AreCommand, Command, One, Play, Send, Show, Station, Trial}
+use Rattle.station.specs.Commands.{AreCommand, Command, One, Play, PlayLine, Send, Show, Station, Trial}
 use Rattle.station.specs.OneOutcome.{FitFile, FitOne, LeftAlike, bits_listened}
 use Rattle.station.specs.OneSend.{FitSend}
 use Rattle.station.specs.OneStation.{FitStation}
@@ -19,6 +20,7 @@ abbrev pub FitRun : Option Command → Objects → Type 0
 FitRun None old = Unit {0}
 FitRun (Some (One capcode)) old = FitOne capcode old.streams
 FitRun (Some (Play air receivers)) old = FitFile air old.shelf × FitFor old.streams.out (play_lines receivers (bits_listened air old.shelf))
+FitRun (Some (PlayLine line receivers)) old = FitFile line old.shelf × FitFor old.streams.out (play_lines receivers (sampled_bits (bits_listened line old.shelf)))
 FitRun (Some (Show air)) old = FitFile air old.shelf × FitFor old.streams.out (table_of (bits_listened air old.shelf))
 FitRun (Some (Station address settings air count)) old = FitStation settings air count (around old)
 FitRun (Some (Trial settings noise receivers)) old = FitTrial settings noise receivers old.shelf old.streams

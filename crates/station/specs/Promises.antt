@@ -8,6 +8,8 @@ use Rattle.air.specs.Near.{IsAirs, Near}
 use Rattle.receiver.specs.Listeners.{is_one_of}
 use Rattle.receiver.specs.Receivers.{most_receivers}
 use Rattle.receiver.specs.Shown.{has_of, pages_in, pages_of_frame, shown_by}
+use Rattle.sampler.specs.Line.{IsLine}
+use Rattle.sampler.specs.Runs.{NoneLonger, sampled_bits}
 use Rattle.subscribers.specs.Parts.{Parts}
 use Rattle.tap_terminal.specs.Session.{Session}
 use Rattle.wires.specs.Files.{Files}
@@ -36,6 +38,12 @@ HearLists receivers lists bits = (number f : ℕ) → 1 ≤ number → number �
 -- after it has at most two wrong bits.
 abbrev pub HearNear : List (List ℕ) → List Bool → Type 0
 HearNear receivers bits = (lists : List (List Page)) → All (All IsAcceptable) lists → Near lists bits → HearLists receivers lists bits
+
+-- What receivers hear in the bits of samples is this where the samples are a line of bits that are near the transmissions of such lists, and
+-- no run of these bits is longer than 127.
+abbrev pub HearNearLine : List (List ℕ) → List Bool → Type 0
+HearNearLine receivers samples = (lists : List (List Page)) (bits : List Bool) → All (All IsAcceptable) lists → Near lists bits → IsLine bits samples → NoneLonger 127 bits
+    → HearLists receivers lists (sampled_bits samples)
 
 -- The bits that were heard in a trial are those of the transmission, each xor the bit of the noise in its place. Where they are near the
 -- transmission, and where no bit of the noise is 1, exactly the pages that the session accepted are heard.

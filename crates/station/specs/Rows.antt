@@ -11,11 +11,12 @@ use Rattle.wires.specs.Written.{Written}
 use Rattle.endings.specs.declared.statuses.Status.{Status}
 use Rattle.endings.specs.declared.statuses.Status.TheVariants.{BadSum, BadText, Done, InputFault, Memory, NotBlock, OutFault, Usage}
 use Rattle.station.specs.AlphaPage.{alpha_page}
-use Rattle.station.specs.Commands.{AreCommand, Command, One, Play, Send, Show, Station, Trial}
+use Rattle.station.specs.Commands.{AreCommand, Command, One, Play, PlayLine, Send, Show, Station, Trial}
 use Rattle.listening.specs.HeardFile.{HearsFile, Plays}
+use Rattle.listening.specs.HeardLine.{PlaysSamples}
 use Rattle.station.specs.LoneBlock.{HasText, IsLoneBlock, IsMarkedBlock}
 use Rattle.listening.specs.PageLines.{play_lines}
-use Rattle.station.specs.Promises.{HearNear, StationPromise, TrialPromise}
+use Rattle.station.specs.Promises.{HearNear, HearNearLine, StationPromise, TrialPromise}
 use Rattle.station.specs.Outcomes.{ErrWell, TellsOutcome}
 use Rattle.station.specs.declared.outcomes.Outcome.{Outcome}
 use Rattle.station.specs.declared.outcomes.Outcome.TheVariants.{Ended, Misread, Refused}
@@ -116,6 +117,12 @@ pub record RunsPlay (receivers : List (List ℕ)) (air : List ℕ) (old new : Ob
   pub wire : new.wire ≡ old.wire
   pub input : new.streams.input ≡ old.streams.input
 
+-- `play-line`: what is heard of the bits of the samples in a file was printed. The rest is as for `play`.
+pub record RunsPlayLine (receivers : List (List ℕ)) (line : List ℕ) (old new : Objects) (status : Status) : Type 0 where
+  pub row : PlaysSamples (play_lines receivers) line old.shelf new.shelf old.streams.out new.streams.out status
+  pub wire : new.wire ≡ old.wire
+  pub input : new.streams.input ≡ old.streams.input
+
 pub record RunsShow (air : List ℕ) (old new : Objects) (status : Status) : Type 0 where
   pub row : HearsFile table_of air old.shelf new.shelf old.streams.out new.streams.out status
   pub wire : new.wire ≡ old.wire
@@ -150,17 +157,19 @@ abbrev pub Acts : Option Command → Objects → Objects → Outcome → Type 0
 Acts None old new outcome = (outcome ≡ Ended Usage) × (new ≡ old)
 Acts (Some (One capcode)) old new outcome = HasEndedSo (RunsOne capcode old new) outcome
 Acts (Some (Play air receivers)) old new outcome = HasEndedSo (RunsPlay receivers air old new) outcome
+Acts (Some (PlayLine line receivers)) old new outcome = HasEndedSo (RunsPlayLine receivers line old new) outcome
 Acts (Some (Show air)) old new outcome = HasEndedSo (RunsShow air old new) outcome
 Acts (Some (Station address settings air count)) old new outcome = RunsStation address settings air count old new outcome
 Acts (Some (Trial settings noise receivers)) old new outcome = RunsTrial settings noise receivers old new outcome
 Acts (Some (Send address pages)) old new outcome = RunsSend address pages old new outcome
 
--- What a command promises of the pages that receivers hear: `play` of the bits of its file, `trial` of the session that it tried, and
+-- What a command promises of the pages that receivers hear: `play` of the bits of its file, `play-line` of the samples in its file, `trial` of the session that it tried, and
 -- `station` of the transmissions that it sent.
 abbrev pub Promises : (command : Option Command) (old new : Objects) (outcome : Outcome) → Acts command old new outcome → Type 0
 Promises None old new outcome acts = Unit {0}
 Promises (Some (One capcode)) old new outcome acts = Unit {0}
 Promises (Some (Play air receivers)) old new outcome acts = HearNear receivers (bytes_bits (old.shelf.file air))
+Promises (Some (PlayLine line receivers)) old new outcome acts = HearNearLine receivers (bytes_bits (old.shelf.file line))
 Promises (Some (Show air)) old new outcome acts = Unit {0}
 Promises (Some (Send address pages)) old new outcome acts = Unit {0}
 Promises (Some (Station address settings air count)) old new outcome acts = StationPromise address settings air count (around old) (around new) outcome acts.row

@@ -15,6 +15,8 @@ pub(crate) enum CommandLine<'a> {
     One(Capcode),
     /// `play AIR RECEIVER ..`
     Play(&'a str, Receivers),
+    /// `play-line LINE RECEIVER ..`
+    PlayLine(&'a str, Receivers),
     /// `show AIR`
     Show(&'a str),
     /// `station ADDRESS SETTINGS AIR N`
@@ -129,7 +131,7 @@ fn show_line(words: &[String]) -> Option<&str>
     Some(air)
 }
 
-/// Reads what follows `play`.
+/// Reads what follows `play` or `play-line`.
 fn play_line(words: &[String]) -> Option<(&str, Receivers)>
     ensures { MatchOption result ((air : List ℕ) (receivers : List (List ℕ)) → ArePlay (texts words.now) air receivers → ⊥) (λ line. ArePlay (texts words.now) line.0.now line.1) }
 {
@@ -156,6 +158,10 @@ pub(crate) fn parse(words: &[String]) -> Option<CommandLine<'_>>
         },
         "play" => match play_line(rest) {
             Some((air, receivers)) => Some(CommandLine::Play(air, receivers)),
+            None => None,
+        },
+        "play-line" => match play_line(rest) {
+            Some((line, receivers)) => Some(CommandLine::PlayLine(line, receivers)),
             None => None,
         },
         "show" => match show_line(rest) {

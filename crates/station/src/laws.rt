@@ -8,7 +8,7 @@ ghost use Rattle.station.specs.Delivered.{Delivered};
 ghost use Rattle.station.specs.FitWorlds.{FitErrWithRoom, FitInMemory, FitWithRoom};
 ghost use Rattle.serving.specs.InTurn.{AllInTurn};
 ghost use Rattle.station.specs.LoneBlock.{HasText, IsMarkedBlock};
-ghost use Rattle.station.specs.OneOutcome.{OneOne, OnePlay, OneShow};
+ghost use Rattle.station.specs.OneOutcome.{OneOne, OnePlay, OnePlayLine, OneShow};
 ghost use Rattle.station.specs.OneRun.{OneRun};
 ghost use Rattle.station.specs.OneSend.{OneSend};
 ghost use Rattle.station.specs.OneStation.{OneStation};
@@ -44,6 +44,7 @@ pub fn served_in_turn()
 /// what the output holds.
 pub fn one_outcome()
     ensures play { OnePlay }
+    ensures play_line { OnePlayLine }
     ensures show { OneShow }
     ensures one { OneOne }
     ensures station { OneStation }

@@ -4,6 +4,7 @@ ghost use Rattle.std.specs.Prelude.{◌≡◌};
 ghost use Rattle.station.specs.Commands.{texts};
 ghost use Rattle.station.specs.Meant.{meant};
 ghost use Rattle.listening.specs.HeardFile.{Plays};
+ghost use Rattle.listening.specs.HeardLine.{PlaysSamples};
 ghost use Rattle.listening.specs.PageLines.{play_lines};
 ghost use Rattle.station.specs.Rows.{Acts, Runs};
 
@@ -14,7 +15,7 @@ use crate::pages_runs::run_send;
 use crate::receivers::{Receivers, group_of};
 use crate::settings_runs::{run_station, run_trial};
 use endings::statuses::Status;
-use listening::hearing::{play_file, show_file};
+use listening::hearing::{play_file, play_samples, show_file};
 use std::alloc::Global;
 use wires::Memory;
 use wires::shelf::Shelf;
@@ -44,6 +45,9 @@ fn act<W: Wire, F: Shelf, I: Source, O: Sink>(
         CommandLine::Play(air, receivers) => {
             Outcome::Ended(play_air(alloc, air, &receivers, shelf, out))
         }
+        CommandLine::PlayLine(line, receivers) => {
+            Outcome::Ended(play_sampled(alloc, line, &receivers, shelf, out))
+        }
         CommandLine::Show(air) => Outcome::Ended(show_file(shelf, air, out)),
         CommandLine::Station(line) => run_station(alloc, &line, wire, shelf, out),
         CommandLine::Trial(settings, noise, receivers) => {
@@ -65,6 +69,22 @@ fn play_air<F: Shelf, O: Sink>(
 {
     match group_of(alloc, receivers) {
         Ok(mut group) => play_file(shelf, air, &mut group, out),
+        Err(Memory) => Status::Memory,
+    }
+}
+
+/// Runs `play-line`.
+fn play_sampled<F: Shelf, O: Sink>(
+    alloc: Global,
+    line: &str,
+    receivers: &Receivers,
+    shelf: &mut F,
+    out: &mut O,
+) -> Status
+    ensures { PlaysSamples (play_lines receivers.now) line.now (F.state shelf.old) (F.state shelf.new) (O.state out.old) (O.state out.new) result }
+{
+    match group_of(alloc, receivers) {
+        Ok(mut group) => play_samples(shelf, line, &mut group, out),
         Err(Memory) => Status::Memory,
     }
 }

@@ -5,7 +5,7 @@
 //! - `blocks`: blocks of the entry line with their sums.
 //! - `runs`: a run of the program over objects in memory, and `airs`, the bytes of transmissions.
 //! - `one_page`: runs of `one`.
-//! - `receivers`: runs of `play` and `show`.
+//! - `receivers`: runs of `play`, `play-line` and `show`.
 //! - `sessions`: runs of `station`, what `play` then prints, and `accepted` and `refused`, the tables of these sessions.
 //! - `cuts`: one session in every cut.
 //! - `long_sessions`: sessions of very many blocks or characters.
@@ -14,7 +14,7 @@
 //! - `trials`: runs of `trial`.
 //! - `clients`: runs of `send`.
 //! - `refusals`: words that are no command, files that are not there, and settings files that are refused.
-//! - `long_files`: the longest file that is played, and a longer one.
+//! - `long_files`: the longest files that are played, and longer ones.
 #![tactic(auto)]
 
 #[cfg(test)]

@@ -1,4 +1,4 @@
-//! Runs of `play` and `show`: docs/profile.md, "play and show", "printed line" and "table".
+//! Runs of `play`, `play-line` and `show`: docs/profile.md, "play and show", "play-line", "printed line" and "table".
 
 use crate::airs::{ABC, push_air, push_preamble, push_words};
 use crate::runs::{Left, Object, Objects, files, run_over};
@@ -115,6 +115,44 @@ fn a_file_that_fails_is_played_until_then(rt: HostRuntime) -> Result<(), Fail> {
         assert_eq!(rt; left.status, Status::FileFault, "{read}");
         assert_eq!(rt; left.out.as_slice(), *lines, "{read}");
         assert_eq!(rt; left.err.as_slice(), b"pocsag: file\n".as_slice(), "{read}");
+    }
+    Ok(())
+}
+
+/// Appends the samples of the bits of a byte, eight for each bit.
+fn push_samples(byte: u8, samples: &mut Vec<u8>) -> Result<(), AllocError> {
+    for place in (0..8u32).rev() {
+        let is_one = (byte >> place) % 2 == 1;
+        samples.push(if is_one { 0xFF } else { 0 })?;
+    }
+    Ok(())
+}
+
+/// The samples of bits, eight for each bit.
+fn sampled(alloc: Global, air: &[u8]) -> Result<Vec<u8>, AllocError> {
+    let mut samples = Vec::new(alloc);
+    for byte in air {
+        push_samples(*byte, &mut samples)?;
+    }
+    Ok(samples)
+}
+
+/// The read of the samples that fails, or none, and how the run ends.
+const SAMPLED: [(&[(Object, u64)], Status); 2] = [
+    (&[], Status::Done),
+    (&[(Object::Shelf, 2)], Status::FileFault),
+];
+
+#[test]
+fn receivers_hear_a_sampled_line(rt: HostRuntime) -> Result<(), Fail> {
+    let air = airs(rt.alloc(), &[0])?;
+    let samples = sampled(rt.alloc(), &air)?;
+    for (faults, status) in &SAMPLED {
+        let words = ["play-line", "air.bin", "8"];
+        let left = heard(rt.alloc(), &words, &samples, *faults)?;
+        assert!(rt; left.failed);
+        assert_eq!(rt; left.status, *status);
+        assert_eq!(rt; left.out.as_slice(), ONCE);
     }
     Ok(())
 }

@@ -6,7 +6,7 @@ use std::alloc::Global;
 use std::test::Fail;
 
 /// Words that are no command's.
-const NO_COMMANDS: [&[&str]; 35] = [
+const NO_COMMANDS: [&[&str]; 38] = [
     &[],
     &["one"],
     &["one", "2007664"],
@@ -31,6 +31,9 @@ const NO_COMMANDS: [&[&str]; 35] = [
     &["play", "air.bin", "8", "2007664"],
     &["play", "air.bin", "8", ""],
     &["play", "", "8"],
+    &["play-line", "l.bin"],
+    &["play-line", "", "8"],
+    &["play-line", "l.bin", "8+8"],
     &["show", "air.bin", "8"],
     &["station", "a", "s", "f", "0"],
     &["station", "127.0.0.1:7000", "s1.toml", "air.bin", "0"],
@@ -90,8 +93,9 @@ fn ran_with(alloc: Global, words: &[&str], name: &str, bytes: &[u8]) -> Result<L
 }
 
 /// Words that name a file that is not there.
-const MISSING: [&[&str]; 5] = [
+const MISSING: [&[&str]; 6] = [
     &["play", "none.bin", "8"],
+    &["play-line", "none.bin", "8"],
     &["show", "none.bin"],
     &["station", "127.0.0.1:7000", "none.toml", "none.bin", "1"],
     &["trial", "none.toml", "noise.bin", "8"],
