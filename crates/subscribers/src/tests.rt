@@ -344,6 +344,9 @@ fn an_entry_has_a_usable_capcode(rt: HostRuntime) -> Result<(), Fail> {
             Some(SettingsFault::Capcode(1))
         };
         assert_eq!(rt; fault(rt.alloc(), file.as_bytes()), wanted, "{number}");
+    }
+    Ok(())
+}
 
 /// The ids of the numbers of `numbers_are_ids`, with their capcodes and functions.
 const DIGITS: [(&str, u32, Function); 4] = [
