@@ -13,15 +13,12 @@ use crate::listening::{Listener, listen};
 use crate::table::Table;
 use endings::statuses::Status;
 use page_text::{LONGEST_READ, line};
-use receiver::{Group, Ready};
+use receiver::{Group, MOST_RECEIVERS, Ready};
 use wires::Failed;
 use wires::piece::Piece;
 use wires::sink::Sink;
 use wires::source::BitSource;
 use wires::steps::{Steps, Work};
-
-/// The most receivers of a group.
-const MOST_RECEIVERS: u32 = 64;
 
 impl Listener for Group {
     ghost printed = { λ g. group_lines g };

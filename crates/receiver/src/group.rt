@@ -25,8 +25,8 @@ use wires::Memory;
 use wires::piece::Piece;
 use wires::steps::Steps;
 
-/// The most receivers of a group.
-const MOST_RECEIVERS: u32 = 64;
+/// The most receivers of a group: their numbers are bits of a word of 64.
+pub const MOST_RECEIVERS: u32 = 64;
 
 /// The receivers of each capcode, as a set of their numbers: the lowest bit is for the receiver 1.
 #[derive(Drop)]

@@ -28,9 +28,9 @@ pub mod receiver;
 mod register;
 
 pub use front::{Front, FrontEvent, HuntStep, Hunting, LockStep, Locked};
-pub use group::Group;
+pub use group::{Group, MOST_RECEIVERS};
 pub use ready::Ready;
-pub use receiver::Receiver;
+pub use receiver::{MOST_CAPCODES, Receiver};
 
 #[cfg(test)]
 mod tests;

@@ -16,7 +16,7 @@ use wires::piece::Piece;
 use wires::steps::{Steps, Work};
 
 /// The most capcodes of a receiver.
-const MOST_CAPCODES: usize = 4;
+pub const MOST_CAPCODES: usize = 4;
 
 /// One to four capcodes.
 #[derive(Drop)]

@@ -5,13 +5,11 @@ ghost use Rattle.station.specs.Commands.{IsCapcodeWord, IsReceiverWord};
 ghost use Rattle.station.specs.ReadWords.{GrowsBy, IsNext};
 
 use codeword::Capcode;
+use receiver::MOST_CAPCODES;
 use std::marker::Model;
 
 /// The most digits that a capcode has in a word.
 const CAPCODE_DIGITS: usize = 7;
-
-/// The most capcodes of a receiver.
-const MOST_CAPCODES: usize = 4;
 
 /// One to four capcodes.
 #[derive(Drop)]

@@ -8,18 +8,18 @@ ghost use Rattle.station.specs.Pairs.{paired_with};
 
 use crate::capcodes::{Capcodes, capcodes_of};
 use codeword::Capcode;
-use receiver::Group;
+use receiver::{Group, MOST_RECEIVERS};
 use std::alloc::Global;
 use std::marker::Model;
 use wires::Memory;
 
 /// The most receivers that a command line may list.
-const MOST_RECEIVERS: usize = 64;
+const MOST_LISTED: usize = MOST_RECEIVERS as usize;
 
 /// One to 64 receivers, by the capcodes of each. They are numbered from 1 in their order.
 #[derive(Drop)]
 pub(crate) struct Receivers {
-    items: [Capcodes; MOST_RECEIVERS],
+    items: [Capcodes; MOST_LISTED],
     count: usize,
 }
 
@@ -38,7 +38,7 @@ impl Receivers {
     fn of(first: Capcodes) -> Receivers
         ensures { result ≡ first ∷ [] }
     {
-        let mut items = [first.as_slice()[0]; MOST_RECEIVERS].map(Capcodes::of);
+        let mut items = [first.as_slice()[0]; MOST_LISTED].map(Capcodes::of);
         items[0] = first;
         Receivers { items, count: 1 }
     }
@@ -56,7 +56,7 @@ impl Receivers {
     fn is_full(&self) -> bool
         ensures { IsTrue result ↔ (length self.now ≡ 64) }
     {
-        self.as_slice().len() == MOST_RECEIVERS
+        self.as_slice().len() == MOST_LISTED
     }
 
     /// Adds a receiver at the end.
