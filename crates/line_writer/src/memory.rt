@@ -1,5 +1,7 @@
 //! Bytes in memory as a source.
 
+ghost use Rattle.std.specs.Prelude.{◌≡◌};
+
 use wires::Failed;
 use wires::source::Source;
 

@@ -1,7 +1,10 @@
 //! Writing the samples of a file's bits to another file.
 
-ghost use Rattle.std.specs.Prelude.{◌≢◌, ◌≤◌, length};
-ghost use Rattle.line_writer.specs.LineFile.{AppendsSamples, ReadsWhole, WritesLine};
+ghost use Rattle.bits.specs.Bits.{bytes_bits};
+ghost use Rattle.line_writer.specs.LineFile.{AppendsBits, ReadsWhole, WritesLine};
+ghost use Rattle.sampler.specs.Strayed.{strayed};
+ghost use Rattle.std.specs.Prelude.{◌≡◌, ◌≢◌, ◌*◌, ◌+◌, ◌≤◌, ◌++◌, IsTrue, length};
+ghost use Rattle.wires.specs.Files.{AppendsTo};
 
 use crate::memory::InMemory;
 use crate::sample_bytes::fill;
@@ -11,6 +14,7 @@ use std::alloc::Global;
 use wires::Failed;
 use wires::byte_bits::ByteBits;
 use wires::shelf::Shelf;
+use wires::source::BitSource;
 
 /// So many bytes of a file are read at most.
 const MOST_READ: usize = 8_388_608;
@@ -24,8 +28,8 @@ const APPENDED_AT_ONCE: usize = 4096;
 /// Writes the samples of the bits of the file `air` to the file `line`, with the edges moved by the generator of this seed. The two names
 /// differ.
 ///
-/// It takes its memory, makes `line` fresh, reads `air` whole, and then appends. The answer is Memory where there was none; FileFault
-/// where a call of the shelf failed; TooLong exactly where 8,388,608 bytes of `air` were read and more follows.
+/// It takes its memory, makes `line` fresh, reads `air` whole, and then appends. The answer is Memory where there was none, and nothing is
+/// touched then; FileFault where a call of the shelf failed; TooLong exactly where 8,388,608 bytes of `air` were read and more follows.
 pub fn write_line<F: Shelf>(
     alloc: Global,
     air: &str,
@@ -42,16 +46,20 @@ pub fn write_line<F: Shelf>(
     if let Err(Failed) = shelf.fresh(line) {
         return Status::FileFault;
     }
-    match read_whole(shelf, air, &mut bytes) {
-        Ok(count) => append_samples(shelf, line, &bytes[..count], seed),
-        Err(status) => status,
+    let count = match read_whole(shelf, air, &mut bytes) {
+        Ok(count) => count,
+        Err(status) => return status,
+    };
+    match append_samples(shelf, line, &bytes[..count], seed) {
+        Ok(()) => Status::Done,
+        Err(Failed) => Status::FileFault,
     }
 }
 
 /// Reads a file whole into the front of a buffer, and answers how many bytes it has. The status is TooLong where the buffer is filled and
 /// more follows, and FileFault where a read failed.
 fn read_whole<F: Shelf>(shelf: &mut F, name: &str, into: &mut [u8]) -> Result<usize, Status>
-    ensures { ReadsWhole name.now (length into.old) (F.state shelf.old) (F.state shelf.new) into.new result }
+    ensures { ReadsWhole name.now into.new (F.state shelf.old) (F.state shelf.new) result }
 {
     let mut count = 0;
     while count < into.len() {
@@ -70,20 +78,58 @@ fn read_whole<F: Shelf>(shelf: &mut F, name: &str, into: &mut [u8]) -> Result<us
 }
 
 /// Appends the samples of the bits of these bytes to a file.
-fn append_samples<F: Shelf>(shelf: &mut F, name: &str, bytes: &[u8], seed: u64) -> Status
+fn append_samples<F: Shelf>(
+    shelf: &mut F,
+    name: &str,
+    bytes: &[u8],
+    seed: u64,
+) -> Result<(), Failed>
     requires { length bytes.now ≤ MOST_READ }
-    ensures { AppendsSamples name.now bytes.now seed (F.state shelf.old) (F.state shelf.new) result }
+    ensures { AppendsBits name.now (strayed (bytes_bits bytes.now) seed) (F.state shelf.old) (F.state shelf.new) result }
 {
     let mut samples = Sampling::over(ByteBits::over(InMemory::of(bytes)), seed);
+    append_bits(shelf, name, &mut samples, BYTES_OF_SAMPLES * bytes.len())
+}
+
+/// Appends all bits that are left of a source to a file. The source tells its bits, is steady, and has the bits of so many bytes.
+fn append_bits<F: Shelf, B: BitSource>(
+    shelf: &mut F,
+    name: &str,
+    bits: &mut B,
+    count: usize,
+) -> Result<(), Failed>
+    requires told { IsTrue (B.state bits.old).tells }
+    requires steady { IsTrue (B.state bits.old).steady }
+    requires whole { length (B.state bits.old).left ≡ 8 * count }
+    ensures { AppendsBits name.now (B.state bits.old).left (F.state shelf.old) (F.state shelf.new) result }
+{
     let mut piece = [0; APPENDED_AT_ONCE];
-    let mut to_come = BYTES_OF_SAMPLES * bytes.len();
+    let mut to_come = count;
     while to_come > 0 {
         let (front, _) = piece.split_at_mut(to_come.min(APPENDED_AT_ONCE));
-        fill(&mut samples, front);
-        if let Err(Failed) = shelf.append(name, front) {
-            return Status::FileFault;
+        if let Err(Failed) = append_next(shelf, name, bits, front) {
+            return Err(Failed);
         }
         to_come -= front.len();
     }
-    Status::Done
+    Ok(())
+}
+
+/// Appends the next bits of a source to a file, as many as fill the buffer.
+fn append_next<F: Shelf, B: BitSource>(
+    shelf: &mut F,
+    name: &str,
+    bits: &mut B,
+    buffer: &mut [u8],
+) -> Result<(), Failed>
+    requires told { IsTrue (B.state bits.old).tells }
+    requires steady { IsTrue (B.state bits.old).steady }
+    requires enough { 8 * length buffer.old ≤ length (B.state bits.old).left }
+    ensures told { IsTrue (B.state bits.new).tells }
+    ensures steady { IsTrue (B.state bits.new).steady }
+    ensures takes { (B.state bits.old).left ≡ bytes_bits buffer.new ++ (B.state bits.new).left }
+    ensures appends { AppendsTo (F.state shelf.old) (F.state shelf.new) name.now buffer.new result }
+{
+    fill(bits, buffer);
+    shelf.append(name, buffer)
 }

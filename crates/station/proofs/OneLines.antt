@@ -15,7 +15,7 @@ no_fault air line seed old new fit h = elim h.at [
   | inl x ↦ absurd (x.unfit fit.tells fit.steady fit.fresh)
   | inr y ↦ elim y [
     | inl x ↦ absurd (x.unfit fit.tells fit.steady fit.fresh fit.there)
-    | inr x ↦ absurd (x.unfit fit.tells fit.steady fit.fresh fit.there fit.room)
+    | inr x ↦ absurd (x.unfit fit.tells fit.steady fit.fresh fit.room)
   ]
 ]
 
@@ -41,13 +41,13 @@ pair : (air line : List ℕ) (seed : ℕ) (old new other : Files) (status anothe
 pair air line seed old new other Done Done fit h k some some2 =
     let t = fit.tells in (
       refl,
-      same_files line old new other h.others k.others (k.line_there t ∙ sym (h.line_there t))
-          (one_bytes (other.file line) (new.file line) (k.holds t).are (h.holds t).are ((k.holds t).samples ∙ sym (h.holds t).samples)),
+      same_files line old new other h.others k.others (k.made.there t ∙ sym (h.made.there t))
+          (one_bytes (other.file line) (new.file line) (k.holds t).are (h.holds t).are ((k.holds t).bits_are ∙ sym (h.holds t).bits_are)),
     )
 pair air line seed old new other Done TooLong fit h k some some2 = absurd (omega (arith, h.few fit.tells, k.many fit.tells))
 pair air line seed old new other TooLong Done fit h k some some2 = absurd (omega (arith, k.few fit.tells, h.many fit.tells))
 pair air line seed old new other TooLong TooLong fit h k some some2 =
-    let t = fit.tells in (refl, same_files line old new other h.others k.others (k.line_there t ∙ sym (h.line_there t)) (k.empty t ∙ sym (h.empty t)))
+    let t = fit.tells in (refl, same_files line old new other h.others k.others (k.made.there t ∙ sym (h.made.there t)) (k.empty t ∙ sym (h.empty t)))
 pair air line seed old new other FileFault another fit h k some some2 = no_fault air line seed old new fit h
 pair air line seed old new other Memory another fit h k some some2 = absurd (some refl)
 pair air line seed old new other status FileFault fit h k some some2 = no_fault air line seed old other fit k
