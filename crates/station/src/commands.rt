@@ -74,7 +74,10 @@ fn line_words(words: &[String]) -> Option<(&str, &str, u64)>
     let [air, line, seed] = words else {
         return None;
     };
-    if air.is_empty() || line.is_empty() || air.as_str() == line.as_str() {
+    if air.is_empty() || line.is_empty() {
+        return None;
+    }
+    if air.as_str() == line.as_str() {
         return None;
     }
     let Some(seed) = seed_of(seed.as_str()) else {

@@ -33,7 +33,7 @@ fn act<W: Wire, F: Shelf, I: Source, O: Sink>(
     input: &mut I,
     out: &mut O,
 ) -> Outcome
-    requires { FilesDiffer (meant line.entry) }
+    requires { FilesDiffer (meant line) }
     ensures { Acts (meant line.entry)
         (record { wire = W.state wire.old; shelf = F.state shelf.old; streams = record { input = I.state input.old; out = O.state out.old } })
         (record { wire = W.state wire.new; shelf = F.state shelf.new; streams = record { input = I.state input.new; out = O.state out.new } })
