@@ -1,5 +1,8 @@
 -- Words as command lines.
-use Rattle.std.proofs.Common.{◌≡◌, ℕ, ◌<◌, ◌≤◌, List, [], ◌∷◌, Option, Some, None, length, get_or, sym, ◌∙◌, ap, subst, arith}
+use lib.Pointwise.{pointwise}
+use Rattle.std.proofs.lemmas.Bool.{eq-eqb, eqb-true}
+use Rattle.std.specs.Prelude.{if◌then◌else◌, nat_eq}
+use Rattle.std.proofs.Common.{◌≡◌, ◌≢◌, ℕ, ◌<◌, ◌≤◌, Bool, true, false, refl, ap₂, List, [], ◌∷◌, Option, Some, None, length, get_or, sym, ◌∙◌, ap, subst, arith}
 use Rattle.std.specs.Prelude.{String, string_bytes}
 use Rattle.std.specs.declared.alloc.Global.{Global}
 use Rattle.station.specs.Commands.{AreCommand, AreLine, AreStation, Command, FilesDiffer, IsCountWord, IsSeedWord, One, Play, PlayLine, Send, Show, Station, Trial, WriteLine, texts}
@@ -23,6 +26,35 @@ last_of_three (a ∷ []) item air line seed low high e h = absurd (omega (arith,
 last_of_three (a ∷ b ∷ []) item air line seed low high e h = absurd (omega (arith, low))
 last_of_three (a ∷ b ∷ c ∷ []) item air line seed low high e h = subst (λ (w : String Global). IsSeedWord (string_bytes w) seed) (sym e) h.5
 last_of_three (a ∷ b ∷ c ∷ d ∷ words) item air line seed low high e h = absurd (omega (arith, high))
+
+-- words that are equal byte for byte are the same
+both : (a b : Bool) → (if a then b else false) ≡ true → (a ≡ true) × (b ≡ true)
+both true b h = (refl, h)
+both false b h = absurd (false_true h)
+  where
+    false_true : false ≡ true → ⊥
+    false_true e = cc
+
+pub same_bytes : (x y : List ℕ) → pointwise nat_eq x y ≡ true → x ≡ y
+same_bytes [] [] h = refl
+same_bytes [] (b ∷ y) h = cc
+same_bytes (a ∷ x) [] h = cc
+same_bytes (a ∷ x) (b ∷ y) h = let k = both (nat_eq a b) (pointwise nat_eq x y) h in ap₂ (λ (n : ℕ) (l : List ℕ). n ∷ l) (eqb-true a b k.0) (same_bytes x y k.1)
+
+pub bytes_same : (x : List ℕ) → pointwise nat_eq x x ≡ true
+bytes_same [] = refl
+bytes_same (a ∷ x) = rw (eq-eqb a a refl) (bytes_same x)
+
+-- the words of `line`
+pub are_line : (words : List (String Global)) (a l s : String Global) (seed : ℕ) → 3 ≤ length words → length words < 4
+    → a ≡ get_or words 0 a → l ≡ get_or words 1 l → s ≡ get_or words 2 s
+    → string_bytes a ≢ [] → string_bytes l ≢ [] → string_bytes a ≢ string_bytes l → IsSeedWord (string_bytes s) seed → AreLine (texts words) (string_bytes a) (string_bytes l) seed
+are_line [] a l s seed low high e f d na nl ne h = absurd (omega (arith, low))
+are_line (x ∷ []) a l s seed low high e f d na nl ne h = absurd (omega (arith, low))
+are_line (x ∷ y ∷ []) a l s seed low high e f d na nl ne h = absurd (omega (arith, low))
+are_line (x ∷ y ∷ z ∷ []) a l s seed low high e f d na nl ne h =
+    (ap string_bytes (sym e), ap string_bytes (sym f), na, nl, ne, subst (λ (w : String Global). IsSeedWord (string_bytes w) seed) d h)
+are_line (x ∷ y ∷ z ∷ w ∷ words) a l s seed low high e f d na nl ne h = absurd (omega (arith, high))
 
 -- the first two of three words are the same
 pub same_files : (words : List (String Global)) (a l : String Global) (air line : List ℕ) (seed : ℕ) → 3 ≤ length words → length words < 4
