@@ -1,7 +1,7 @@
 //! The top call.
 
 ghost use Rattle.std.specs.Prelude.{◌≡◌};
-ghost use Rattle.station.specs.Commands.{texts};
+ghost use Rattle.station.specs.Commands.{FilesDiffer, texts};
 ghost use Rattle.station.specs.Meant.{meant};
 ghost use Rattle.listening.specs.HeardFile.{Plays};
 ghost use Rattle.listening.specs.HeardLine.{PlaysSamples};
@@ -15,6 +15,7 @@ use crate::pages_runs::run_send;
 use crate::receivers::{Receivers, group_of};
 use crate::settings_runs::{run_station, run_trial};
 use endings::statuses::Status;
+use line_writer::write_line;
 use listening::hearing::{play_file, play_samples, show_file};
 use std::alloc::Global;
 use wires::Memory;
@@ -32,6 +33,7 @@ fn act<W: Wire, F: Shelf, I: Source, O: Sink>(
     input: &mut I,
     out: &mut O,
 ) -> Outcome
+    requires { FilesDiffer (meant line) }
     ensures { Acts (meant line.entry)
         (record { wire = W.state wire.old; shelf = F.state shelf.old; streams = record { input = I.state input.old; out = O.state out.old } })
         (record { wire = W.state wire.new; shelf = F.state shelf.new; streams = record { input = I.state input.new; out = O.state out.new } })
@@ -47,6 +49,9 @@ fn act<W: Wire, F: Shelf, I: Source, O: Sink>(
         }
         CommandLine::PlayLine(line, receivers) => {
             Outcome::Ended(play_sampled(alloc, line, &receivers, shelf, out))
+        }
+        CommandLine::WriteLine(air, line, seed) => {
+            Outcome::Ended(write_line(alloc, air, line, seed, shelf))
         }
         CommandLine::Show(air) => Outcome::Ended(show_file(shelf, air, out)),
         CommandLine::Station(line) => run_station(alloc, &line, wire, shelf, out),

@@ -1,3 +1,4 @@
+use Rattle.station.proofs.CommandLines.{files_differ}
 use Rattle.station.proofs.Promised.{promised}
 use Rattle.station.proofs.Told.{told_well}
 use Rattle.station.proofs.top.run.Goals as goal
@@ -12,3 +13,6 @@ returns g c = record {
   tells = c.tell_outcome.ensures;
   err_well = told_well c.act-outcome.result _ _ c.tell_outcome.result c.tell_outcome.ensures;
 }
+
+pub act-outcome-requires : goal.act-requires
+act-outcome-requires g c = files_differ _ _ c.parse.ensures
