@@ -1,5 +1,5 @@
 -- Bits that are appended to a file, some bytes at a time.
-use Rattle.std.proofs.Common.{◌≡◌, ℕ, zero, suc, ◌+◌, ◌-◌, ◌*◌, ◌^◌, ◌<◌, ◌≤◌, Bool, List, [], ◌∷◌, ◌++◌, get_or, length, length-append, take, drop, append_assoc, append-nil, Result, Ok, Err, IsErr, IsTrue, refl, sym, ◌∙◌, ap, ap₂, subst, arith, length-drop}
+use Rattle.std.proofs.Common.{◌≡◌, ℕ, zero, suc, ◌-◌, ◌*◌, ◌^◌, ◌<◌, Bool, List, [], ◌∷◌, ◌++◌, length, length-append, take, drop, append_assoc, append-nil, Result, Ok, Err, IsErr, IsTrue, refl, sym, ◌∙◌, ap, ap₂, arith, length-drop}
 use Rattle.std.proofs.lemmas.List.{length-take-le, take-append-drop}
 use Rattle.std.specs.Borrow.{GName}
 use Rattle.bits.specs.Bits.{bits_of, bytes_bits, number}
@@ -40,8 +40,7 @@ some_bytes (suc n) bits h =
     let eight : length first ≡ 8 = length-take-le 8 bits (omega (arith, h)) in
     let rest = some_bytes n (drop 8 bits) (omega (arith, h, length-drop 8 bits)) in
     let is : bits_of 8 (number first) ≡ first = ap (λ (k : ℕ). bits_of k (number first)) (sym eight) ∙ bits_of-number first in
-    let lt : number first < 256 = (let few = number-lt first in let e : 2 ^ length first ≡ 2 ^ 8 = ap (λ (k : ℕ). 2 ^ k) eight in omega (arith, few, e)) in
-    (
+    let lt : number first < 256 = (let few = number-lt first in let e : 2 ^ length first ≡ 2 ^ 8 = ap (λ (k : ℕ). 2 ^ k) eight in omega (arith, few, e)) in (
       number first ∷ rest.0,
       record {
         bits_are = ap₂ (λ (xs ys : List Bool). xs ++ ys) is rest.1.bits_are ∙ take-append-drop 8 bits;

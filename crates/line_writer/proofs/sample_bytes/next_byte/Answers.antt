@@ -1,4 +1,4 @@
-use Rattle.std.proofs.Common.{◌≡◌, ◌∙◌, ◌+◌, ◌≤◌, ◌++◌, List, Bool, length, IsTrue, refl, sym, ap, subst, arith}
+use Rattle.std.proofs.Common.{◌∙◌, ◌+◌, ◌≤◌, ◌++◌, List, Bool, IsTrue, refl, sym, ap, subst, arith}
 use Rattle.wires.proofs.Pieces.{none_left}
 use Rattle.line_writer.proofs.SampleBytes.{gathers, some_come}
 use Rattle.line_writer.proofs.sample_bytes.next_byte.Goals as goal

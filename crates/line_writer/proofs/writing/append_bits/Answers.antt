@@ -1,5 +1,5 @@
 use Rattle.std.proofs.Common.{refl}
-use Rattle.line_writer.proofs.Appending.{appending_begins, appending_ends, appending_fails, appending_goes_on}
+use Rattle.line_writer.proofs.Appending.{appending_fails, appending_goes_on}
 use Rattle.line_writer.proofs.writing.append_bits.Goals as goal
 
 pub returns-in-Err : goal.returns-in-Err
