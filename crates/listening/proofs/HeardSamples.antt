@@ -5,7 +5,7 @@ use Rattle.std.specs.Borrow.{GName}
 use Rattle.std.proofs.lemmas.Bool.Decides.{nat_tests}
 use Rattle.bits.specs.Bits.{bytes_bits}
 use Rattle.sampler.specs.Runs.{sampled_bits}
-use Rattle.sampler.specs.Stacked.{Counted, PassesAll, follows, sampled_over}
+use Rattle.sampler.specs.Stacked.{Counted, PassesAll, follows, lent_source, sampled_over}
 use Rattle.wires.proofs.Written.{and_both, no_ok}
 use Rattle.wires.specs.Causes.{Rose}
 use Rattle.wires.specs.Files.{Files, all_files}
@@ -17,7 +17,7 @@ use Rattle.wires.specs.Written.{Written}
 use Rattle.endings.specs.declared.statuses.Status.{Status}
 use Rattle.endings.specs.declared.statuses.Status.TheVariants.{Done, FileFault, OutFault, TooLong}
 use Rattle.endings.specs.Wrote.{FitFor, StaysWell}
-use Rattle.listening.specs.HeardLine.{HasListenedToSamples, HearsSamples, sampled_file_bits}
+use Rattle.listening.specs.HeardLine.{HasListenedToSamples, HearsSampled, HearsSamples, most_sampled_bits, sampled_file_bits}
 use Rattle.listening.specs.Listening.{FailedAfter, HasListened, ListenedToAll, ListenedToFault, ListenedTooLong, OutWell, most_bits}
 use Rattle.listening.proofs.FewBits.{few_of_first}
 use Rattle.listening.proofs.HeardFiles.{holding, kept, listens_holding}
@@ -144,137 +144,134 @@ samples_kept printed count a b o0 o FileFault h = kept printed a b o0 o FileFaul
 samples_kept printed count a b o0 o OutFault h = kept printed a b o0 o OutFault h
 samples_kept printed count a b o0 o other h = elim h [ ]
 
--- ---- the shelf below
+-- ---- the samples below
 
 -- no sample was counted
 abbrev pub uncounted : Counted
 uncounted = record { ready = []; last = false; count = 0 }
 
--- the files that bits of samples over a shelf hold
-abbrev files_below : Files → List Held → OtherFiles
-files_below s (Follows f ∷ Lent n ∷ Text t ∷ OfShelf o ∷ rest) = o
-files_below s _ = all_files s
+-- the bits of samples of which none was read
+fresh_samples : (n : GName) (limit : ℕ) (x : Left Bool) → limit ≡ most_bits → holding x.lent (sampled_over uncounted limit None (lent_source n x)) ≡ most_sampled_bits x
+fresh_samples n limit x l = rw l refl
 
--- the bits of the samples in a file of which none was read
-fresh_samples : (n : GName) (name same : List ℕ) (ready : List Bool) (from limit : ℕ) (old now : Files) → ready ≡ [] → from ≡ 0 → same ≡ name → now ≡ old → limit ≡ most_bits
-    → holding old.lent (sampled_over uncounted limit None (shelf_bits n same ready from now)) ≡ sampled_file_bits name old
-fresh_samples n name same ready from limit old now r f s e l = rw (r, f, s, e, l) refl
-
-hears_samples : (printed : List Bool → List ℕ) (m n : GName) (name same after : List ℕ) (ready later left : List Bool) (from at limit to_come : ℕ) (c : Counted) (asked : Option Bool) (old now new : Files) (a : Left Bool)
-    (o0 o : Written ℕ) (status : Status)
-    → ready ≡ [] → from ≡ 0 → same ≡ name → now ≡ old → limit ≡ most_bits
-    → a ≡ sampled_over uncounted limit None (shelf_bits n same ready from now)
-    → HasListenedToSamples printed (length (bytes_bits (old.file name))) a (leaving left (sampled_over c to_come asked (shelf_bits m after later at new))) o0 o status
+hears_sampled : (printed : List Bool → List ℕ) (m n : GName) (left : List Bool) (limit to_come : ℕ) (c : Counted) (asked : Option Bool) (x y a : Left Bool) (o0 o : Written ℕ) (status : Status)
+    → limit ≡ most_bits → a ≡ sampled_over uncounted limit None (lent_source n x)
+    → HasListenedToSamples printed (length x.left) a (leaving left (sampled_over c to_come asked (lent_source m y))) o0 o status
     → OutWell printed a o0 o status
-    → HearsSamples printed name old new o0 o status
-hears_samples printed m n name same after ready later left from at limit to_come c asked old now new a o0 o status r f s e l is h w =
-    let count = length (bytes_bits (old.file name)) in
-    let rest = leaving left (sampled_over c to_come asked (shelf_bits m after later at new)) in
-    let k = samples_kept printed count a rest o0 o status h in
-    let eq : holding old.lent a ≡ sampled_file_bits name old = ap (holding old.lent) is ∙ fresh_samples n name same ready from limit old now r f s e l in
+    → HearsSampled printed x y o0 o status
+hears_sampled printed m n left limit to_come c asked x y a o0 o status l is h w =
+    let rest = leaving left (sampled_over c to_come asked (lent_source m y)) in
+    let k = samples_kept printed (length x.left) a rest o0 o status h in
+    let eq : holding x.lent a ≡ most_sampled_bits x = ap (holding x.lent) is ∙ fresh_samples n limit x l in
     record {
-      rest = holding old.lent rest;
-      listens = subst (λ (b : Left Bool). HasListenedToSamples printed count b (holding old.lent rest) o0 o status) eq (samples_holding printed count old.lent a rest o0 o status h);
+      rest = holding x.lent rest;
+      listens = subst (λ (b : Left Bool). HasListenedToSamples printed (length x.left) b (holding x.lent rest) o0 o status) eq (samples_holding printed (length x.left) x.lent a rest o0 o status h);
       faults = refl;
-      steady = λ t. (and_both new.steady (new.there after) t).0;
-      tells = k.0 ∙ (ap (λ (b : Left Bool). b.tells) is ∙ ap (λ (x : Files). x.tells) e);
-      files = ap (files_below old) (k.1 ∙ ap (λ (b : Left Bool). b.lent) is) ∙ ap all_files e;
-      lent = ap (λ (held : List Held). drop 4 held) (k.1 ∙ ap (λ (b : Left Bool). b.lent) is) ∙ ap (λ (x : Files). x.lent) e;
+      steady = λ t. t;
+      tells = k.0 ∙ ap (λ (b : Left Bool). b.tells) is;
+      lent = ap (λ (held : List Held). drop 2 held) (k.1 ∙ ap (λ (b : Left Bool). b.lent) is);
       out_well = subst (λ (b : Left Bool). OutWell printed b o0 o status) eq w;
     }
 
 -- so few bits have the samples that are read
-few_left : (n : GName) (same : List ℕ) (ready : List Bool) (from limit : ℕ) (now : Files) (a : Left Bool) → limit ≡ most_bits → a.left ≡ sampled_bits (take limit (shelf_bits n same ready from now).left)
-    → length a.left ≤ most_bits
-few_left n same ready from limit now a l is = let h = few_of_first limit (shelf_bits n same ready from now).left in omega (arith, h, l, ap length is)
-
--- how many samples the file has
-told_count : (n : GName) (name same : List ℕ) (ready : List Bool) (from limit : ℕ) (old now : Files) (held : List Held) → ready ≡ [] → from ≡ 0 → same ≡ name → now ≡ old
-    → (IsTrue now.tells → follows held ≡ nat_lt limit (length (shelf_bits n same ready from now).left))
-    → IsTrue old.tells → follows held ≡ nat_lt limit (length (bytes_bits (old.file name)))
-told_count n name same ready from limit old now held r f s e h t =
-    h (subst (λ (x : Files). IsTrue x.tells) (sym e) t) ∙ rw (r, f, s, e) refl
+few_left : (limit : ℕ) (x a : Left Bool) → limit ≡ most_bits → a.left ≡ sampled_bits (take limit x.left) → length a.left ≤ most_bits
+few_left limit x a l is = let h = few_of_first limit x.left in omega (arith, h, l, ap length is)
 
 -- all bits were heard where the status is Done
 heard_all : (printed : List Bool → List ℕ) (a b : Left Bool) (o0 o : Written ℕ) (status : Status) → status ≡ Done → HasListened printed a b o0 o status → ListenedToAll printed a b o0 o
 heard_all printed a b o0 o status is h = subst (λ (s : Status). HasListened printed a b o0 o s) is h
 
--- ---- what hearing the samples in a file comes to
+-- ---- what hearing samples comes to
 
 -- not all bits were heard
-pub heard_some : (printed : List Bool → List ℕ) (m n : GName) (name same after : List ℕ) (ready later : List Bool) (from at limit to_come : ℕ) (c : Counted) (asked : Option Bool) (old now new : Files) (a : Left Bool)
-    (o0 o : Written ℕ) (status : Status)
-    → ready ≡ [] → from ≡ 0 → same ≡ name → now ≡ old → limit ≡ most_bits
-    → a ≡ sampled_over uncounted limit None (shelf_bits n same ready from now)
-    → a.left ≡ sampled_bits (take limit (shelf_bits n same ready from now).left)
-    → status ≢ Done → HasListened printed a (sampled_over c to_come asked (shelf_bits m after later at new)) o0 o status → OutWell printed a o0 o status
-    → HearsSamples printed name old new o0 o status
-heard_some printed m n name same after ready later from at limit to_come c asked old now new a o0 o status r f s e l is left ne h w =
-    let b = sampled_over c to_come asked (shelf_bits m after later at new) in
-    hears_samples printed m n name same after ready later b.left from at limit to_come c asked old now new a o0 o status r f s e l is
-    (not_all printed (length (bytes_bits (old.file name))) a b o0 o status ne (few_left n same ready from limit now a l left) h) w
+pub heard_some : (printed : List Bool → List ℕ) (m n : GName) (limit to_come : ℕ) (c : Counted) (asked : Option Bool) (x y a : Left Bool) (o0 o : Written ℕ) (status : Status)
+    → limit ≡ most_bits → a ≡ sampled_over uncounted limit None (lent_source n x) → a.left ≡ sampled_bits (take limit x.left)
+    → status ≢ Done → HasListened printed a (sampled_over c to_come asked (lent_source m y)) o0 o status → OutWell printed a o0 o status
+    → HearsSampled printed x y o0 o status
+heard_some printed m n limit to_come c asked x y a o0 o status l is left ne h w =
+    let b = sampled_over c to_come asked (lent_source m y) in
+    hears_sampled printed m n b.left limit to_come c asked x y a o0 o status l is (not_all printed (length x.left) a b o0 o status ne (few_left limit x a l left) h) w
 
 -- all bits were heard, and whether a further sample follows was answered
-pub heard_to_end : {E : Type 0} (printed : List Bool → List ℕ) (m n : GName) (name same after : List ℕ) (ready later : List Bool) (from at limit to_come : ℕ) (c : Counted) (asked : Option Bool) (old now new : Files) (a b : Left Bool)
-    (o0 o : Written ℕ) (status : Status) (more : Bool)
-    → ready ≡ [] → from ≡ 0 → same ≡ name → now ≡ old → limit ≡ most_bits
-    → a ≡ sampled_over uncounted limit None (shelf_bits n same ready from now)
-    → (IsTrue now.tells → follows a.lent ≡ nat_lt limit (length (shelf_bits n same ready from now).left))
+pub heard_to_end : {E : Type 0} (printed : List Bool → List ℕ) (m n : GName) (limit to_come : ℕ) (c : Counted) (asked : Option Bool) (x y a b : Left Bool) (o0 o : Written ℕ) (status : Status) (more : Bool)
+    → limit ≡ most_bits → a ≡ sampled_over uncounted limit None (lent_source n x) → (IsTrue x.tells → follows a.lent ≡ nat_lt limit (length x.left))
     → status ≡ Done → HasListened printed a b o0 o status → OutWell printed a o0 o status
-    → PassesAll {E = E} b (sampled_over c to_come asked (shelf_bits m after later at new)) (Ok more)
-    → HearsSamples printed name old new o0 o (if more then TooLong else Done)
-heard_to_end {E} printed m n name same after ready later from at limit to_come c asked old now new a b o0 o status more r f s e l is told done h w p =
-    let e2 = sampled_over c to_come asked (shelf_bits m after later at new) in
-    let count = length (bytes_bits (old.file name)) in
+    → PassesAll {E = E} b (sampled_over c to_come asked (lent_source m y)) (Ok more)
+    → HearsSampled printed x y o0 o (if more then TooLong else Done)
+heard_to_end {E} printed m n limit to_come c asked x y a b o0 o status more l is told done h w p =
     let all = heard_all printed a b o0 o status done h in
-    let tells : a.tells ≡ old.tells = ap (λ (x : Left Bool). x.tells) is ∙ ap (λ (x : Files). x.tells) e in
-    let answer = answered a b e2 old.tells limit count more tells all.took.tells all.took.lent (told_count n name same ready from limit old now a.lent r f s e told) p in
-    by_answer more answer (all_to_end printed a b e2 o0 o more all p) tells
+    let tells : a.tells ≡ x.tells = ap (λ (z : Left Bool). z.tells) is in
+    let answer = answered a b (sampled_over c to_come asked (lent_source m y)) x.tells limit (length x.left) more tells all.took.tells all.took.lent told p in
+    by_answer more answer (all_to_end printed a b (sampled_over c to_come asked (lent_source m y)) o0 o more all p) tells
   where
-    by_answer : (yes : Bool) → (IsTrue old.tells → yes ≡ nat_lt limit (length (bytes_bits (old.file name)))) → ListenedToAll printed a (sampled_over c to_come asked (shelf_bits m after later at new)) o0 o
-        → a.tells ≡ old.tells → HearsSamples printed name old new o0 o (if yes then TooLong else Done)
+    by_answer : (yes : Bool) → (IsTrue x.tells → yes ≡ nat_lt limit (length x.left)) → ListenedToAll printed a (sampled_over c to_come asked (lent_source m y)) o0 o
+        → a.tells ≡ x.tells → HearsSampled printed x y o0 o (if yes then TooLong else Done)
     by_answer true answer all tells =
-        let b = sampled_over c to_come asked (shelf_bits m after later at new) in
-        hears_samples printed m n name same after ready later b.left from at limit to_come c asked old now new a o0 o TooLong r f s e l is
-        (all, λ t. let k = some_more limit (length (bytes_bits (old.file name))) (answer (subst IsTrue tells t)) in omega (arith, k, l)) (well_too_long printed a o0 o status w)
+        let b = sampled_over c to_come asked (lent_source m y) in
+        hears_sampled printed m n b.left limit to_come c asked x y a o0 o TooLong l is
+        (all, λ t. let k = some_more limit (length x.left) (answer (subst IsTrue tells t)) in omega (arith, k, l)) (well_too_long printed a o0 o status w)
     by_answer false answer all tells =
-        let b = sampled_over c to_come asked (shelf_bits m after later at new) in
-        hears_samples printed m n name same after ready later b.left from at limit to_come c asked old now new a o0 o Done r f s e l is
-        (all, λ t. let k = no_more limit (length (bytes_bits (old.file name))) (answer (subst IsTrue tells t)) in omega (arith, k, l)) (well_done printed a o0 o status w)
+        let b = sampled_over c to_come asked (lent_source m y) in
+        hears_sampled printed m n b.left limit to_come c asked x y a o0 o Done l is
+        (all, λ t. let k = no_more limit (length x.left) (answer (subst IsTrue tells t)) in omega (arith, k, l)) (well_done printed a o0 o status w)
 
 -- all bits were heard, and a read failed before that was answered
-pub heard_to_fault : {E : Type 0} (printed : List Bool → List ℕ) (m n : GName) (name same after : List ℕ) (ready later : List Bool) (from at limit to_come : ℕ) (c : Counted) (asked : Option Bool) (old now new : Files) (a b : Left Bool)
-    (o0 o : Written ℕ) (status : Status) (x : E)
-    → ready ≡ [] → from ≡ 0 → same ≡ name → now ≡ old → limit ≡ most_bits
-    → a ≡ sampled_over uncounted limit None (shelf_bits n same ready from now)
+pub heard_to_fault : {E : Type 0} (printed : List Bool → List ℕ) (m n : GName) (limit to_come : ℕ) (c : Counted) (asked : Option Bool) (x y a b : Left Bool) (o0 o : Written ℕ) (status : Status) (e : E)
+    → limit ≡ most_bits → a ≡ sampled_over uncounted limit None (lent_source n x)
     → status ≡ Done → HasListened printed a b o0 o status → OutWell printed a o0 o status
-    → PassesAll b (sampled_over c to_come asked (shelf_bits m after later at new)) (Err x)
-    → HearsSamples printed name old new o0 o FileFault
-heard_to_fault printed m n name same after ready later from at limit to_come c asked old now new a b o0 o status x r f s e l is done h w p =
+    → PassesAll b (sampled_over c to_come asked (lent_source m y)) (Err e)
+    → HearsSampled printed x y o0 o FileFault
+heard_to_fault printed m n limit to_come c asked x y a b o0 o status e l is done h w p =
     let all = heard_all printed a b o0 o status done h in
-    hears_samples printed m n name same after ready later b.left from at limit to_come c asked old now new a o0 o FileFault r f s e l is
-    (fault_at_end printed a b (sampled_over c to_come asked (shelf_bits m after later at new)) o0 o x all p) (well_failed printed a o0 o status w)
+    hears_sampled printed m n b.left limit to_come c asked x y a o0 o FileFault l is
+    (fault_at_end printed a b (sampled_over c to_come asked (lent_source m y)) o0 o e all p) (well_failed printed a o0 o status w)
 
--- ---- the reference to the shelf
+-- ---- the reference to the samples
 
--- the name of the reference to the shelf that bits of samples hold
-abbrev lender_of : GName → List Held → GName
+-- the name of the reference to the samples that their bits hold
+abbrev pub lender_of : GName → List Held → GName
 lender_of other (Follows f ∷ Lent n ∷ rest) = n
 lender_of other _ = other
 
 -- it is the one that they were made over
-pub lender_heard : (printed : List Bool → List ℕ) (m n : GName) (same after : List ℕ) (ready later : List Bool) (from at limit to_come : ℕ) (c : Counted) (asked : Option Bool) (now new : Files) (a : Left Bool)
-    (o0 o : Written ℕ) (status : Status)
-    → a ≡ sampled_over uncounted limit None (shelf_bits n same ready from now)
-    → HasListened printed a (sampled_over c to_come asked (shelf_bits m after later at new)) o0 o status → m ≡ n
-lender_heard printed m n same after ready later from at limit to_come c asked now new a o0 o status is h =
-    let k = kept printed a (sampled_over c to_come asked (shelf_bits m after later at new)) o0 o status h in
+pub lender_heard : (printed : List Bool → List ℕ) (m n : GName) (limit to_come : ℕ) (c : Counted) (asked : Option Bool) (x y a : Left Bool) (o0 o : Written ℕ) (status : Status)
+    → a ≡ sampled_over uncounted limit None (lent_source n x) → HasListened printed a (sampled_over c to_come asked (lent_source m y)) o0 o status → m ≡ n
+lender_heard printed m n limit to_come c asked x y a o0 o status is h =
+    let k = kept printed a (sampled_over c to_come asked (lent_source m y)) o0 o status h in
     ap (lender_of m) (k.1 ∙ ap (λ (b : Left Bool). b.lent) is)
 
-pub lender_at_end : {E : Type 0} (printed : List Bool → List ℕ) (m n : GName) (same after : List ℕ) (ready later : List Bool) (from at limit to_come : ℕ) (c : Counted) (asked : Option Bool) (now new : Files) (a b : Left Bool)
-    (o0 o : Written ℕ) (status : Status) (r : Result Bool E)
-    → a ≡ sampled_over uncounted limit None (shelf_bits n same ready from now)
-    → HasListened printed a b o0 o status → PassesAll b (sampled_over c to_come asked (shelf_bits m after later at new)) r → m ≡ n
-lender_at_end printed m n same after ready later from at limit to_come c asked now new a b o0 o status r is h p =
+pub lender_at_end : {E : Type 0} (printed : List Bool → List ℕ) (m n : GName) (limit to_come : ℕ) (c : Counted) (asked : Option Bool) (x y a b : Left Bool) (o0 o : Written ℕ) (status : Status) (r : Result Bool E)
+    → a ≡ sampled_over uncounted limit None (lent_source n x)
+    → HasListened printed a b o0 o status → PassesAll b (sampled_over c to_come asked (lent_source m y)) r → m ≡ n
+lender_at_end printed m n limit to_come c asked x y a b o0 o status r is h p =
     let k = kept printed a b o0 o status h in
-    ap (lender_of m) (p.lent ∙ (k.1 ∙ ap (λ (x : Left Bool). x.lent) is))
+    ap (lender_of m) (p.lent ∙ (k.1 ∙ ap (λ (z : Left Bool). z.lent) is))
+
+-- ---- the shelf below
+
+-- the files that bits over a shelf hold
+abbrev files_below : Files → List Held → OtherFiles
+files_below s (Lent n ∷ Text t ∷ OfShelf o ∷ rest) = o
+files_below s _ = all_files s
+
+-- samples that are the bits of a file were heard
+pub hears_samples : (printed : List Bool → List ℕ) (m n : GName) (name same after : List ℕ) (ready later : List Bool) (from at : ℕ) (old now new : Files) (o0 o : Written ℕ) (status : Status)
+    → ready ≡ [] → from ≡ 0 → same ≡ name → now ≡ old
+    → HearsSampled printed (shelf_bits n same ready from now) (shelf_bits m after later at new) o0 o status
+    → HearsSamples printed name old new o0 o status
+hears_samples printed m n name same after ready later from at old now new o0 o status r f s e h =
+    let x = shelf_bits n same ready from now in
+    let eq : holding old.lent (most_sampled_bits x) ≡ sampled_file_bits name old = rw (r, f, s, e) refl in
+    let count : length x.left ≡ length (bytes_bits (old.file name)) = rw (r, f, s, e) refl in
+    let listens = samples_holding printed (length x.left) old.lent (most_sampled_bits x) h.rest o0 o status h.listens in
+    record {
+      rest = holding old.lent h.rest;
+      listens = subst (λ (b : Left Bool). HasListenedToSamples printed (length (bytes_bits (old.file name))) b (holding old.lent h.rest) o0 o status) eq
+          (subst (λ (k : ℕ). HasListenedToSamples printed k (holding old.lent (most_sampled_bits x)) (holding old.lent h.rest) o0 o status) count listens);
+      faults = h.faults;
+      steady = λ t. (and_both new.steady (new.there after) (h.steady t)).0;
+      tells = h.tells ∙ ap (λ (z : Files). z.tells) e;
+      files = ap (files_below old) h.lent ∙ ap all_files e;
+      lent = ap (λ (held : List Held). drop 3 held) h.lent ∙ ap (λ (z : Files). z.lent) e;
+      out_well = subst (λ (b : Left Bool). OutWell printed b o0 o status) eq h.out_well;
+    }

@@ -30,6 +30,28 @@ HasListenedToSamples printed count old new out0 out FileFault = ListenedToFault 
 HasListenedToSamples printed count old new out0 out OutFault = ListenedUnheard printed old new out0 out
 HasListenedToSamples printed count old new out0 out other = ⊥
 
+-- the bits of samples, of which so many are read as 67,108,864 bytes have
+abbrev pub most_sampled_bits : Left Bool → Left Bool
+most_sampled_bits samples = record {
+  tells = samples.tells;
+  left = sampled_bits (take most_bits samples.left);
+  there = samples.there;
+  steady = samples.steady;
+  faults = samples.faults;
+  lent = samples.lent;
+}
+
+-- What the bits of samples give was printed, by status: `rest` is what is left of them. Faults of the samples are those of reading them, and
+-- they are steady where their bits are.
+pub record HearsSampled (printed : List Bool → List ℕ) (old new : Left Bool) (out0 out : Written ℕ) (status : Status) : Type 0 where
+  pub rest : Left Bool
+  pub listens : HasListenedToSamples printed (length old.left) (most_sampled_bits old) rest out0 out status
+  pub faults : new.faults ≡ rest.faults
+  pub steady : IsTrue rest.steady → IsTrue new.steady
+  pub tells : new.tells ≡ old.tells
+  pub lent : new.lent ≡ old.lent
+  pub out_well : OutWell printed (most_sampled_bits old) out0 out status
+
 -- What the bits of the samples in a file give was printed, by status: `rest` is what is left of them. No file changed, faults of the shelf
 -- are those of reading the samples, and it is steady where they are. So is an output that was steady and had room for the lines of all
 -- bits.

@@ -3,7 +3,7 @@
 ghost use Rattle.std.specs.Prelude.{◌≡◌, []};
 ghost use Rattle.receiver.specs.Listeners.{StandsFor};
 ghost use Rattle.listening.specs.HeardFile.{HearsFile};
-ghost use Rattle.listening.specs.HeardLine.{HearsSamples};
+ghost use Rattle.listening.specs.HeardLine.{HearsSampled, HearsSamples};
 ghost use Rattle.listening.specs.PageLines.{group_lines};
 ghost use Rattle.listening.specs.Table.{table_of};
 
@@ -11,11 +11,12 @@ use crate::listening::MOST_BITS;
 use crate::playing::{play, show};
 use endings::statuses::Status;
 use receiver::Group;
-use sampler::sampled::Sampled;
+use sampler::sampled::SampledFrom;
 use wires::Failed;
 use wires::byte_bits::ShelfBits;
 use wires::shelf::Shelf;
 use wires::sink::Sink;
+use wires::source::BitSource;
 
 /// Plays receivers over the bits of a file.
 pub fn play_file<F: Shelf, O: Sink>(
@@ -44,22 +45,24 @@ pub fn play_samples<F: Shelf, O: Sink>(
     requires { StandsFor group.old [] }
     ensures { HearsSamples (group_lines group.old) name.now (F.state shelf.old) (F.state shelf.new) (O.state out.old) (O.state out.new) result }
 {
-    let mut bits = Sampled::over(ShelfBits::over(shelf, name), u64::from(MOST_BITS));
+    let mut samples = ShelfBits::over(shelf, name);
+    play_sampled(&mut samples, group, out)
+}
+
+/// Plays receivers over the bits of samples, at most those of 67,108,864 bytes.
+fn play_sampled<B: BitSource, O: Sink>(samples: &mut B, group: &mut Group, out: &mut O) -> Status
+    requires { StandsFor group.old [] }
+    ensures { HearsSampled (group_lines group.old) (B.state samples.old) (B.state samples.new) (O.state out.old) (O.state out.new) result }
+{
+    let mut bits = SampledFrom::over(samples, u64::from(MOST_BITS));
     let status = play(&mut bits, group, out);
     match status {
-        Status::Done => {
-            let further = bits.end();
-            let _samples = bits.into_samples();
-            match further {
-                Ok(false) => Status::Done,
-                Ok(true) => Status::TooLong,
-                Err(Failed) => Status::FileFault,
-            }
-        }
-        _ => {
-            let _samples = bits.into_samples();
-            status
-        }
+        Status::Done => match bits.end() {
+            Ok(false) => Status::Done,
+            Ok(true) => Status::TooLong,
+            Err(Failed) => Status::FileFault,
+        },
+        _ => status,
     }
 }
 

@@ -1,10 +1,11 @@
 -- What types tell that work on samples.
 use Rattle.std.specs.Prelude.{◌≡◌, ℕ, IfOk, IsOk, IsTrue, OnOk, Result, ◌+◌, ◌/◌, ◌%◌, ◌||◌, nat_lt, Bool, true, false, List, [], ◌∷◌, ◌++◌, drop, is_some, length, replicate, take, Option, Some, None, if◌then◌else◌}
 use Rattle.std.specs.Bool.{beq}
+use Rattle.std.specs.Borrow.{GName}
 use Rattle.rand_pcg.specs.Lcg.{Lcg}
 use Rattle.rand_pcg.specs.Pcg.{pcg32}
 use Rattle.wires.specs.Causes.{HasCause}
-use Rattle.wires.specs.Held.{Held, Follows}
+use Rattle.wires.specs.Held.{Held, Follows, Lent}
 use Rattle.wires.specs.Left.{Left}
 use Rattle.wires.specs.Stacked.{some_or}
 use Rattle.sampler.specs.Runs.{runs, sampled_bits}
@@ -42,6 +43,17 @@ abbrev pub follows_after : ℕ → Option Bool → Bool → List Bool → Bool
 follows_after limit further false left = false
 follows_after limit (Some b) true left = b
 follows_after limit None true left = nat_lt limit (length left)
+
+-- a source that was lent under this name
+abbrev pub lent_source : GName → Left Bool → Left Bool
+lent_source name below = record {
+  tells = below.tells;
+  left = below.left;
+  there = below.there;
+  steady = below.steady;
+  faults = below.faults;
+  lent = Lent name ∷ below.lent;
+}
 
 -- the bits of samples: of those that were read ahead, and then of the first of the samples left, of which so many may still be read. After
 -- the further sample was asked for, nothing more is read. Whether there is a further sample stays in what is held

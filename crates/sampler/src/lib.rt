@@ -6,9 +6,10 @@
 //!
 //! | module | what it holds |
 //! |---|---|
-//! | `sampled` | `Sampled`, the bits of samples |
+//! | `sampled` | `Sampled` and `SampledFrom`, the bits of samples |
 //! | `sampling` | `Sampling`, the samples of bits, with edges that stray |
 //! | `laws` | that the bits of a line are those that it was made of, and that strayed bits are a line |
+//! | `progress` | how far samples are read and counted |
 //! | `counter` | the count of equal samples since the last edge |
 //! | `gathered` | bits that are gathered, a run at a time |
 //! | `taken` | bits taken one by one out of pieces |
@@ -19,6 +20,7 @@ mod callers;
 mod counter;
 mod gathered;
 pub mod laws;
+mod progress;
 pub mod sampled;
 pub mod sampling;
 mod taken;

@@ -28,7 +28,7 @@ use Rattle.endings.specs.declared.statuses.Status.{Status}
 use Rattle.endings.specs.declared.statuses.Status.TheVariants.{Done, Usage, Settings, FileFault, WireFault, OutFault, InputFault, NotBlock, BadSum, BadText, TooLong, LogonRefused, SomeUnsent, Memory, BadPages}
 use Rattle.station.specs.AirRoom.{most_air, most_said}
 use Rattle.station.specs.AlphaPage.{alpha_page}
-use Rattle.station.specs.Commands.{Command, One, Play, PlayLine, Send, Show, Station, Trial, WriteLine}
+use Rattle.station.specs.Commands.{Command, One, Play, PlayLine, Send, Show, Station, Trial}
 use Rattle.station.specs.FitWorlds.{roomy_connection, AreSteady, FitErrWithRoom, FitInMemory, FitWithRoom, HasFiles, longest_line_about, world, roomy}
 use Rattle.station.specs.LoneBlock.{HasText}
 use Rattle.station.specs.OneOutcome.{bits_listened}
@@ -183,8 +183,6 @@ fit_with_room (Some (One capcode)) old s h = (
 fit_with_room (Some (Play air receivers)) old s h = (length (play_lines receivers (bits_listened air old.shelf)), λ room le. (record { tells = s.shelf_tells; steady = s.shelf_steady; there = h }, record { tells = s.out_tells; steady = s.out_steady; room = le }))
 fit_with_room (Some (PlayLine line receivers)) old s h =
     (length (play_lines receivers (sampled_bits (bits_listened line old.shelf))), λ room le. (record { tells = s.shelf_tells; steady = s.shelf_steady; there = h }, record { tells = s.out_tells; steady = s.out_steady; room = le }))
-fit_with_room (Some (WriteLine air line seed)) old s h =
-    (8 * length (old.shelf.file air), λ room le. record { tells = s.shelf_tells; steady = s.shelf_steady; there = h.0; fresh = h.1; room = le })
 fit_with_room (Some (Show air)) old s h = (length (table_of (bits_listened air old.shelf)), λ room le. (record { tells = s.shelf_tells; steady = s.shelf_steady; there = h }, record { tells = s.out_tells; steady = s.out_steady; room = le }))
 fit_with_room (Some (Station address settings air count)) old s h = (station_room count old settings, λ room le. fit_station address settings air count old s h room le)
 fit_with_room (Some (Trial settings noise receivers)) old s h = (trial_room receivers old settings noise, λ room le. fit_trial settings noise receivers old s h room le)
@@ -235,9 +233,6 @@ err_few (Some (Play air receivers)) old new (Misread fault) h = elim h [ ]
 err_few (Some (PlayLine line receivers)) old new (Ended status) h = let a = status_few status in omega (arith, a)
 err_few (Some (PlayLine line receivers)) old new (Refused fault) h = elim h [ ]
 err_few (Some (PlayLine line receivers)) old new (Misread fault) h = elim h [ ]
-err_few (Some (WriteLine air line seed)) old new (Ended status) h = let a = status_few status in omega (arith, a)
-err_few (Some (WriteLine air line seed)) old new (Refused fault) h = elim h [ ]
-err_few (Some (WriteLine air line seed)) old new (Misread fault) h = elim h [ ]
 err_few (Some (Show air)) old new (Ended status) h = let a = status_few status in omega (arith, a)
 err_few (Some (Show air)) old new (Refused fault) h = elim h [ ]
 err_few (Some (Show air)) old new (Misread fault) h = elim h [ ]
@@ -266,7 +261,6 @@ has_files None heard input file = tt
 has_files (Some (One capcode)) heard input file = tt
 has_files (Some (Play air receivers)) heard input file = refl
 has_files (Some (PlayLine line receivers)) heard input file = refl
-has_files (Some (WriteLine air line seed)) heard input file = (refl, inl refl)
 has_files (Some (Show air)) heard input file = refl
 has_files (Some (Station address settings air count)) heard input file = (refl, inl refl)
 has_files (Some (Trial settings noise receivers)) heard input file = (refl, refl)

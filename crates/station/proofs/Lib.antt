@@ -20,7 +20,6 @@ pub mod PagesRead
 pub mod Delivered
 pub mod Told
 pub mod OneOutcomes
-pub mod OneLines
 pub mod OneBytes
 pub mod OneOfOne
 pub mod OneServings

@@ -1,6 +1,6 @@
 -- Words are one command's at most.
 use Rattle.std.proofs.Common.{◌≡◌, ℕ, ◌+◌, List, [], ◌∷◌, Option, Some, None, get_or, length, refl, sym, ◌∙◌, ap, ap₂, arith}
-use Rattle.station.specs.Commands.{AreCommand, AreLine, AreOne, ArePlay, AreSend, AreShow, AreStation, AreTrial, Command, IsCommand, IsReceiverWord, One, Play, PlayLine, Say, Send, Show, Station, Trial, WriteLine}
+use Rattle.station.specs.Commands.{AreCommand, AreOne, ArePlay, AreSend, AreShow, AreStation, AreTrial, Command, IsCommand, IsReceiverWord, One, Play, PlayLine, Say, Send, Show, Station, Trial}
 use Rattle.station.proofs.ListedCapcodes.{one_receiver}
 use Rattle.station.proofs.Saying.{Say-one}
 
@@ -9,7 +9,6 @@ mark : Command → ℕ
 mark (One capcode) = 113
 mark (Play air receivers) = 112
 mark (PlayLine line receivers) = 117
-mark (WriteLine air line seed) = 109
 mark (Show air) = 108
 mark (Station address settings air count) = 123
 mark (Trial settings noise receivers) = 119
@@ -20,7 +19,6 @@ unfolding mark
 mark_is name words (One capcode) h = ap (λ (l : List ℕ). get_or l 1 0 + length l) h.0
 mark_is name words (Play air receivers) h = ap (λ (l : List ℕ). get_or l 1 0 + length l) h.0
 mark_is name words (PlayLine line receivers) h = ap (λ (l : List ℕ). get_or l 1 0 + length l) h.0
-mark_is name words (WriteLine air line seed) h = ap (λ (l : List ℕ). get_or l 1 0 + length l) h.0
 mark_is name words (Show air) h = ap (λ (l : List ℕ). get_or l 1 0 + length l) h.0
 mark_is name words (Station address settings air count) h = ap (λ (l : List ℕ). get_or l 1 0 + length l) h.0
 mark_is name words (Trial settings noise receivers) h = ap (λ (l : List ℕ). get_or l 1 0 + length l) h.0
@@ -41,14 +39,6 @@ one_play (word ∷ words) air air2 rs rs2 h k = ap₂ Play (sym k.0 ∙ h.0) (on
 one_play_line : (words : List (List ℕ)) (line line2 : List ℕ) (rs rs2 : List (List ℕ)) → ArePlay words line rs → ArePlay words line2 rs2 → PlayLine line2 rs2 ≡ PlayLine line rs
 one_play_line [] line line2 rs rs2 h k = elim h [ ]
 one_play_line (word ∷ words) line line2 rs rs2 h k = ap₂ PlayLine (sym k.0 ∙ h.0) (one_receivers words rs rs2 h.2.say k.2.say)
-
-one_line : (words : List (List ℕ)) (a a2 l l2 : List ℕ) (s s2 : ℕ) → AreLine words a l s → AreLine words a2 l2 s2 → WriteLine a2 l2 s2 ≡ WriteLine a l s
-one_line [] a a2 l l2 s s2 h k = elim h [ ]
-one_line (w ∷ []) a a2 l l2 s s2 h k = elim h [ ]
-one_line (w ∷ v ∷ []) a a2 l l2 s s2 h k = elim h [ ]
-one_line (w ∷ v ∷ u ∷ []) a a2 l l2 s s2 h k =
-    ap₂ (λ (x y : List ℕ). WriteLine x y s2) (sym k.0 ∙ h.0) (sym k.1 ∙ h.1) ∙ ap (WriteLine a l) (k.5.value ∙ sym h.5.value)
-one_line (w ∷ v ∷ u ∷ t ∷ words) a a2 l l2 s s2 h k = elim h [ ]
 
 one_show : (words : List (List ℕ)) (air air2 : List ℕ) → AreShow words air → AreShow words air2 → Show air2 ≡ Show air
 one_show [] air air2 h k = elim h [ ]
@@ -82,7 +72,6 @@ one_some [] a b h k = elim h [ ]
 one_some (name ∷ words) (One a) (One b) h k = one_one words a b h.1 k.1
 one_some (name ∷ words) (Play a c) (Play b d) h k = one_play words a b c d h.1 k.1
 one_some (name ∷ words) (PlayLine a c) (PlayLine b d) h k = one_play_line words a b c d h.1 k.1
-one_some (name ∷ words) (WriteLine a l s) (WriteLine a2 l2 s2) h k = one_line words a a2 l l2 s s2 h.1 k.1
 one_some (name ∷ words) (Show a) (Show b) h k = one_show words a b h.1 k.1
 one_some (name ∷ words) (Station a s f n) (Station a2 s2 f2 n2) h k = one_station words a a2 s s2 f f2 n n2 h.1 k.1
 one_some (name ∷ words) (Trial s n c) (Trial s2 n2 c2) h k = one_trial words s s2 n n2 c c2 h.1 k.1

@@ -7,7 +7,7 @@ use Rattle.station.specs.declared.outcomes.Outcome.{Outcome}
 use Rattle.station.specs.declared.outcomes.Outcome.TheVariants.{Ended, Misread, Refused}
 use Rattle.endings.specs.declared.statuses.Status.{Status}
 use Rattle.endings.specs.declared.statuses.Status.TheVariants.{BadPages, Done, Memory, OutFault, Settings}
-use Rattle.station.specs.Commands.{Command, One, Play, PlayLine, Send, Show, Station, Trial, WriteLine}
+use Rattle.station.specs.Commands.{Command, One, Play, PlayLine, Send, Show, Station, Trial}
 use Rattle.station.specs.OneRun.{FitRun, OneRun}
 use Rattle.station.specs.Outcomes.{Tells, TellsMisread, TellsOutcome, TellsRefusal, line_about, pages_line, settings_line}
 use Rattle.station.specs.Rows.{Acts, HasEndedSo, Objects}
@@ -18,7 +18,6 @@ use Rattle.endings.specs.Wrote.{FitFor}
 use Rattle.station.proofs.OneCommands.{one_command}
 use Rattle.station.proofs.OneOfOne.{one_one}
 use Rattle.station.proofs.OneOutcomes.{one_play, one_play_line, one_show}
-use Rattle.station.proofs.OneLines.{one_write_line}
 use Rattle.station.proofs.OneSends.{one_send}
 use Rattle.station.proofs.OneStations.{one_station}
 use Rattle.station.proofs.OneTrials.{one_trial}
@@ -77,8 +76,6 @@ acts_alike (Some (Play air receivers)) old new other outcome another fit h k som
     came_alike _ _ outcome another (λ s t a b n m. one_play receivers air old new other s t fit.0 fit.1 a b n m) h k some some2
 acts_alike (Some (PlayLine line receivers)) old new other outcome another fit h k some some2 =
     came_alike _ _ outcome another (λ s t a b n m. one_play_line receivers line old new other s t fit.0 fit.1 a b n m) h k some some2
-acts_alike (Some (WriteLine air line seed)) old new other outcome another fit h k some some2 =
-    came_alike _ _ outcome another (λ s t a b n m. one_write_line air line seed old new other s t fit a b n m) h k some some2
 acts_alike (Some (Show air)) old new other outcome another fit h k some some2 =
     came_alike _ _ outcome another (λ s t a b n m. one_show air old new other s t fit.0 fit.1 a b) h k some some2
 acts_alike (Some (Station address settings air count)) old new other outcome another fit h k some some2 = one_station address settings air count old new other outcome another fit h k some some2

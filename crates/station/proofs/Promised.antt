@@ -34,7 +34,7 @@ use Rattle.serving.proofs.WholeSessions.{turn-wholes}
 use Rattle.station.specs.declared.outcomes.Outcome.{Outcome}
 use Rattle.station.specs.declared.outcomes.Outcome.TheVariants.{Ended, Misread, Refused}
 use Rattle.endings.specs.declared.statuses.Status.TheVariants.{Done, FileFault, OutFault, Usage, WireFault}
-use Rattle.station.specs.Commands.{AreCommand, Command, IsCapcodeWord, IsReceiverWord, One, Play, PlayLine, Say, Send, Show, Station, Trial, WriteLine, plus_parts}
+use Rattle.station.specs.Commands.{AreCommand, Command, IsCapcodeWord, IsReceiverWord, One, Play, PlayLine, Say, Send, Show, Station, Trial, plus_parts}
 use Rattle.near.specs.NearAir.{AreUsable}
 use Rattle.station.specs.Promises.{AcceptedWhileFit, AreAccepted, FaultPromise, FilePromise, HearLists, HearNear, HearNearLine, HearsTrial, ServedSend, StationPromise, TrialPromise, accepted_in}
 use Rattle.station.specs.ReadFile.{ReadSettings, Unreadable}
@@ -218,7 +218,6 @@ promised [] (Some (PlayLine line receivers)) old new outcome acts h = elim h [ ]
 promised (name ∷ []) (Some (PlayLine line receivers)) old new outcome acts h = elim h.1 [ ]
 promised (name ∷ w ∷ words) (Some (PlayLine line receivers)) old new outcome acts h =
     HearNearLine-from receivers (bytes_bits (old.shelf.file line)) (AreUsable-words words receivers h.1.2.say)
-promised words (Some (WriteLine air line seed)) old new outcome acts h = tt
 promised words (Some (Show air)) old new outcome acts h = tt
 promised words (Some (Send address pages)) old new outcome acts h = tt
 promised words (Some (Station address settings air count)) old new outcome acts h = station_promise address settings air count _ _ outcome acts.row

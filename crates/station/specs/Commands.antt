@@ -1,5 +1,5 @@
 -- The command lines.
-use Rattle.std.specs.Prelude.{◌≡◌, ◌≢◌, ℕ, ◌≤◌, ◌<◌, ◌^◌, ◌==◌, false, List, [], ◌∷◌, length, map, Option, Some, None, String, string_bytes, codes}
+use Rattle.std.specs.Prelude.{◌≡◌, ◌≢◌, ℕ, ◌≤◌, ◌<◌, ◌==◌, false, List, [], ◌∷◌, length, map, Option, Some, None, String, string_bytes, codes}
 use Rattle.std.specs.List.{list_any, slice_split}
 use Rattle.std.specs.Str.Parse.{IsNumeral, digits_value}
 use Rattle.std.specs.declared.alloc.Global.{Global}
@@ -13,8 +13,6 @@ pub data Command : Type 0 where
   Play : List ℕ → List (List ℕ) → Command
   -- play-line LINE RECEIVER ..: prints the pages that receivers, each of these capcodes, hear in the bits of the samples in this file
   PlayLine : List ℕ → List (List ℕ) → Command
-  -- line AIR LINE SEED: writes the samples of the bits of one file to the other, with the edges moved by the generator of this seed
-  WriteLine : List ℕ → List ℕ → ℕ → Command
   -- show AIR: prints the sync words and slots that are heard in the bits of this file
   Show : List ℕ → Command
   -- station ADDRESS SETTINGS AIR N: serves so many connections at this address, by these settings, and keeps the air in this file
@@ -68,12 +66,6 @@ pub record IsCountWord (word : List ℕ) (count : ℕ) : Type 0 where
   pub some : 1 ≤ count
   pub few : count ≤ 1000
 
--- a number below 2^64 in decimal digits, with zeros in front or not
-pub record IsSeedWord (word : List ℕ) (seed : ℕ) : Type 0 where
-  pub digits : IsNumeral 10 word
-  pub value : seed ≡ digits_value 10 word
-  pub few : seed < 2 ^ 64
-
 -- a file's name or an address is any word that isn't empty
 abbrev pub IsName : List ℕ → Type 0
 IsName word = word ≢ []
@@ -86,11 +78,6 @@ ArePlay (word ∷ words) air receivers = (word ≡ air) × IsName air × AreRece
 abbrev pub AreShow : List (List ℕ) → List ℕ → Type 0
 AreShow (word ∷ []) air = (word ≡ air) × IsName air
 AreShow words air = ⊥
-
--- what follows `line`: the two files differ
-abbrev pub AreLine : List (List ℕ) → List ℕ → List ℕ → ℕ → Type 0
-AreLine (a ∷ l ∷ s ∷ []) air line seed = (a ≡ air) × (l ≡ line) × IsName air × IsName line × (air ≢ line) × IsSeedWord s seed
-AreLine words air line seed = ⊥
 
 -- what follows `station`, and what follows `trial`
 abbrev pub AreStation : List (List ℕ) → List ℕ → List ℕ → List ℕ → ℕ → Type 0
@@ -117,7 +104,6 @@ IsCommand [] command = ⊥
 IsCommand (name ∷ words) (One capcode) = (name ≡ codes "one") × AreOne words capcode
 IsCommand (name ∷ words) (Play air receivers) = (name ≡ codes "play") × ArePlay words air receivers
 IsCommand (name ∷ words) (PlayLine line receivers) = (name ≡ codes "play-line") × ArePlay words line receivers
-IsCommand (name ∷ words) (WriteLine air line seed) = (name ≡ codes "line") × AreLine words air line seed
 IsCommand (name ∷ words) (Show air) = (name ≡ codes "show") × AreShow words air
 IsCommand (name ∷ words) (Station address settings air count) = (name ≡ codes "station") × AreStation words address settings air count
 IsCommand (name ∷ words) (Trial settings noise receivers) = (name ≡ codes "trial") × AreTrial words settings noise receivers

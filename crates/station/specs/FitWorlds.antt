@@ -1,13 +1,12 @@
 -- Steady objects are fit for a command where they have enough room.
 use Rattle.std.specs.Prelude.{◌⊎◌, ℕ, ◌<◌, ◌≤◌, true, false, List, [], length, Option, Some, None, IsTrue}
-use Rattle.line_writer.specs.LineFile.{CanBeFresh}
 use Rattle.wires.specs.Files.{Files, longest_name}
 use Rattle.wires.specs.Held.{Connection}
 use Rattle.wires.specs.Left.{Left}
 use Rattle.wires.specs.Line.{Line}
 use Rattle.wires.specs.Stacked.{are_bytes}
 use Rattle.wires.specs.Written.{Written}
-use Rattle.station.specs.Commands.{Command, One, Play, PlayLine, Send, Show, Station, Trial, WriteLine}
+use Rattle.station.specs.Commands.{Command, One, Play, PlayLine, Send, Show, Station, Trial}
 use Rattle.station.specs.OneRun.{FitErr, FitRun}
 use Rattle.station.specs.Rows.{Objects, Outside, Streams}
 
@@ -48,7 +47,6 @@ HasFiles None old = Unit {0}
 HasFiles (Some (One capcode)) old = Unit {0}
 HasFiles (Some (Play air receivers)) old = IsTrue (old.shelf.there air)
 HasFiles (Some (PlayLine line receivers)) old = IsTrue (old.shelf.there line)
-HasFiles (Some (WriteLine air line seed)) old = IsTrue (old.shelf.there air) × CanBeFresh line old.shelf
 HasFiles (Some (Show air)) old = IsTrue (old.shelf.there air)
 HasFiles (Some (Station address settings air count)) old = IsTrue (old.shelf.there settings) × (IsTrue (old.shelf.there air) ⊎ (IsTrue old.shelf.further × (length air ≤ longest_name)))
 HasFiles (Some (Trial settings noise receivers)) old = IsTrue (old.shelf.there settings) × IsTrue (old.shelf.there noise)

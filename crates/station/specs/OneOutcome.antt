@@ -6,14 +6,13 @@ use Rattle.sampler.specs.Runs.{sampled_bits}
 use Rattle.tap_block.specs.Chars.{characters}
 use Rattle.wires.specs.Files.{Files}
 use Rattle.wires.specs.Stacked.{are_bytes}
-use Rattle.line_writer.specs.LineFile.{CanBeFresh}
 use Rattle.endings.specs.declared.statuses.Status.{Status}
 use Rattle.endings.specs.declared.statuses.Status.TheVariants.{Memory}
 use Rattle.station.specs.AlphaPage.{alpha_page}
 use Rattle.listening.specs.Listening.{most_bits}
 use Rattle.station.specs.LoneBlock.{HasText, IsMarkedBlock}
 use Rattle.listening.specs.PageLines.{play_lines}
-use Rattle.station.specs.Rows.{Objects, RunsOne, RunsPlay, RunsPlayLine, RunsShow, RunsWriteLine, Streams}
+use Rattle.station.specs.Rows.{Objects, RunsOne, RunsPlay, RunsPlayLine, RunsShow, Streams}
 use Rattle.listening.specs.Table.{table_of}
 use Rattle.endings.specs.Wrote.{FitFor}
 
@@ -47,20 +46,6 @@ abbrev pub OnePlayLine : Type 0
 OnePlayLine = (receivers : List (List ℕ)) (line : List ℕ) (old new other : Objects) (status another : Status) → FitFile line old.shelf
     → FitFor old.streams.out (play_lines receivers (sampled_bits (bits_listened line old.shelf)))
     → RunsPlayLine receivers line old new status → RunsPlayLine receivers line old other another → status ≢ Memory → another ≢ Memory
-    → (another ≡ status) × LeftAlike new other
-
--- The shelf is steady, and the file `air` is there. The file `line` is there or may be added, and gets room for the samples.
-pub record FitWriteLine (air line : List ℕ) (shelf : Files) : Type 0 where
-  pub tells : IsTrue shelf.tells
-  pub steady : IsTrue shelf.steady
-  pub there : IsTrue (shelf.there air)
-  pub fresh : CanBeFresh line shelf
-  pub room : 8 * length (shelf.file air) ≤ shelf.fresh_room
-
--- Over a fit shelf two runs of `line` that had memory answer the same, and leave the same.
-abbrev pub OneWriteLine : Type 0
-OneWriteLine = (air line : List ℕ) (seed : ℕ) (old new other : Objects) (status another : Status) → FitWriteLine air line old.shelf
-    → RunsWriteLine air line seed old new status → RunsWriteLine air line seed old other another → status ≢ Memory → another ≢ Memory
     → (another ≡ status) × LeftAlike new other
 
 -- the same of `show`, which takes no memory

@@ -11,10 +11,9 @@ use Rattle.wires.specs.Written.{Written}
 use Rattle.endings.specs.declared.statuses.Status.{Status}
 use Rattle.endings.specs.declared.statuses.Status.TheVariants.{BadSum, BadText, Done, InputFault, Memory, NotBlock, OutFault, Usage}
 use Rattle.station.specs.AlphaPage.{alpha_page}
-use Rattle.station.specs.Commands.{AreCommand, Command, One, Play, PlayLine, Send, Show, Station, Trial, WriteLine}
+use Rattle.station.specs.Commands.{AreCommand, Command, One, Play, PlayLine, Send, Show, Station, Trial}
 use Rattle.listening.specs.HeardFile.{HearsFile, Plays}
 use Rattle.listening.specs.HeardLine.{PlaysSamples}
-use Rattle.line_writer.specs.LineFile.{WritesLine}
 use Rattle.station.specs.LoneBlock.{HasText, IsLoneBlock, IsMarkedBlock}
 use Rattle.listening.specs.PageLines.{play_lines}
 use Rattle.station.specs.Promises.{HearNear, HearNearLine, StationPromise, TrialPromise}
@@ -124,12 +123,6 @@ pub record RunsPlayLine (receivers : List (List ℕ)) (line : List ℕ) (old new
   pub wire : new.wire ≡ old.wire
   pub input : new.streams.input ≡ old.streams.input
 
--- `line`: the samples of the bits of the file `air` were written to the file `line`. All else is as before.
-pub record RunsWriteLine (air line : List ℕ) (seed : ℕ) (old new : Objects) (status : Status) : Type 0 where
-  pub row : WritesLine air line seed old.shelf new.shelf status
-  pub wire : new.wire ≡ old.wire
-  pub streams : new.streams ≡ old.streams
-
 pub record RunsShow (air : List ℕ) (old new : Objects) (status : Status) : Type 0 where
   pub row : HearsFile table_of air old.shelf new.shelf old.streams.out new.streams.out status
   pub wire : new.wire ≡ old.wire
@@ -165,7 +158,6 @@ Acts None old new outcome = (outcome ≡ Ended Usage) × (new ≡ old)
 Acts (Some (One capcode)) old new outcome = HasEndedSo (RunsOne capcode old new) outcome
 Acts (Some (Play air receivers)) old new outcome = HasEndedSo (RunsPlay receivers air old new) outcome
 Acts (Some (PlayLine line receivers)) old new outcome = HasEndedSo (RunsPlayLine receivers line old new) outcome
-Acts (Some (WriteLine air line seed)) old new outcome = HasEndedSo (RunsWriteLine air line seed old new) outcome
 Acts (Some (Show air)) old new outcome = HasEndedSo (RunsShow air old new) outcome
 Acts (Some (Station address settings air count)) old new outcome = RunsStation address settings air count old new outcome
 Acts (Some (Trial settings noise receivers)) old new outcome = RunsTrial settings noise receivers old new outcome
@@ -178,7 +170,6 @@ Promises None old new outcome acts = Unit {0}
 Promises (Some (One capcode)) old new outcome acts = Unit {0}
 Promises (Some (Play air receivers)) old new outcome acts = HearNear receivers (bytes_bits (old.shelf.file air))
 Promises (Some (PlayLine line receivers)) old new outcome acts = HearNearLine receivers (bytes_bits (old.shelf.file line))
-Promises (Some (WriteLine air line seed)) old new outcome acts = Unit {0}
 Promises (Some (Show air)) old new outcome acts = Unit {0}
 Promises (Some (Send address pages)) old new outcome acts = Unit {0}
 Promises (Some (Station address settings air count)) old new outcome acts = StationPromise address settings air count (around old) (around new) outcome acts.row

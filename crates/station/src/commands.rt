@@ -1,7 +1,7 @@
 //! The command lines: docs/profile.md, "command lines".
 
 ghost use Rattle.std.specs.Prelude.{◌≡◌, ℕ, List, MatchOption};
-ghost use Rattle.station.specs.Commands.{AreCommand, AreOne, ArePlay, AreSend, AreShow, AreStation, AreLine, AreTrial, IsCountWord, IsSeedWord, texts};
+ghost use Rattle.station.specs.Commands.{AreCommand, AreOne, ArePlay, AreSend, AreShow, AreStation, AreTrial, IsCountWord, texts};
 ghost use Rattle.station.specs.Meant.{meant};
 
 use crate::capcodes::capcode_of;
@@ -17,8 +17,6 @@ pub(crate) enum CommandLine<'a> {
     Play(&'a str, Receivers),
     /// `play-line LINE RECEIVER ..`
     PlayLine(&'a str, Receivers),
-    /// `line AIR LINE SEED`
-    WriteLine(&'a str, &'a str, u64),
     /// `show AIR`
     Show(&'a str),
     /// `station ADDRESS SETTINGS AIR N`
@@ -55,32 +53,6 @@ fn count_of(word: &str) -> Option<u32>
         return None;
     }
     Some(count)
-}
-
-/// The number below 2^64 that a word of decimal digits says, without sign. None exactly where it says none.
-fn seed_of(word: &str) -> Option<u64>
-    ensures { MatchOption result ((seed : ℕ) → IsSeedWord word.now seed → ⊥) (λ seed. IsSeedWord word.now seed) }
-{
-    if word.starts_with('+') {
-        return None;
-    }
-    word.parse::<u64>().ok()
-}
-
-/// Reads what follows `line`.
-fn line_words(words: &[String]) -> Option<(&str, &str, u64)>
-    ensures { MatchOption result ((air line : List ℕ) (seed : ℕ) → AreLine (texts words.now) air line seed → ⊥) (λ line. AreLine (texts words.now) line.0.now line.1.now line.2) }
-{
-    let [air, line, seed] = words else {
-        return None;
-    };
-    if air.is_empty() || line.is_empty() || air.as_str() == line.as_str() {
-        return None;
-    }
-    let Some(seed) = seed_of(seed.as_str()) else {
-        return None;
-    };
-    Some((air.as_str(), line.as_str(), seed))
 }
 
 /// Reads what follows `station`.
@@ -190,10 +162,6 @@ pub(crate) fn parse(words: &[String]) -> Option<CommandLine<'_>>
         },
         "play-line" => match play_line(rest) {
             Some((line, receivers)) => Some(CommandLine::PlayLine(line, receivers)),
-            None => None,
-        },
-        "line" => match line_words(rest) {
-            Some((air, line, seed)) => Some(CommandLine::WriteLine(air, line, seed)),
             None => None,
         },
         "show" => match show_line(rest) {

@@ -8,7 +8,7 @@ ghost use Rattle.station.specs.Delivered.{Delivered};
 ghost use Rattle.station.specs.FitWorlds.{FitErrWithRoom, FitInMemory, FitWithRoom};
 ghost use Rattle.serving.specs.InTurn.{AllInTurn};
 ghost use Rattle.station.specs.LoneBlock.{HasText, IsMarkedBlock};
-ghost use Rattle.station.specs.OneOutcome.{OneOne, OnePlay, OnePlayLine, OneShow, OneWriteLine};
+ghost use Rattle.station.specs.OneOutcome.{OneOne, OnePlay, OnePlayLine, OneShow};
 ghost use Rattle.station.specs.OneRun.{OneRun};
 ghost use Rattle.station.specs.OneSend.{OneSend};
 ghost use Rattle.station.specs.OneStation.{OneStation};
@@ -45,7 +45,6 @@ pub fn served_in_turn()
 pub fn one_outcome()
     ensures play { OnePlay }
     ensures play_line { OnePlayLine }
-    ensures write_line { OneWriteLine }
     ensures show { OneShow }
     ensures one { OneOne }
     ensures station { OneStation }

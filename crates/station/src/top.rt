@@ -15,7 +15,6 @@ use crate::pages_runs::run_send;
 use crate::receivers::{Receivers, group_of};
 use crate::settings_runs::{run_station, run_trial};
 use endings::statuses::Status;
-use line_writer::write_line;
 use listening::hearing::{play_file, play_samples, show_file};
 use std::alloc::Global;
 use wires::Memory;
@@ -48,9 +47,6 @@ fn act<W: Wire, F: Shelf, I: Source, O: Sink>(
         }
         CommandLine::PlayLine(line, receivers) => {
             Outcome::Ended(play_sampled(alloc, line, &receivers, shelf, out))
-        }
-        CommandLine::WriteLine(air, line, seed) => {
-            Outcome::Ended(write_line(alloc, air, line, seed, shelf))
         }
         CommandLine::Show(air) => Outcome::Ended(show_file(shelf, air, out)),
         CommandLine::Station(line) => run_station(alloc, &line, wire, shelf, out),

@@ -8,7 +8,6 @@
 //! - `pools`: a pool that is full.
 //! - `runs`: a run of the program over objects in memory, and `airs`, the bytes of transmissions.
 //! - `one_page`: runs of `one`.
-//! - `lines`: runs of `line`, and what `play-line` then prints.
 //! - `receivers`: runs of `play`, `play-line` and `show`.
 //! - `sessions`: runs of `station`, what `play` then prints, and `accepted` and `refused`, the tables of these sessions.
 //! - `cuts`: one session in every cut.
@@ -35,8 +34,6 @@ mod clients;
 mod cuts;
 #[cfg(test)]
 mod failing_calls;
-#[cfg(test)]
-mod lines;
 #[cfg(test)]
 mod long_files;
 #[cfg(test)]

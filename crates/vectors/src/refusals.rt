@@ -6,7 +6,7 @@ use std::alloc::Global;
 use std::test::Fail;
 
 /// Words that are no command's.
-const NO_COMMANDS: [&[&str]; 43] = [
+const NO_COMMANDS: [&[&str]; 38] = [
     &[],
     &["one"],
     &["one", "2007664"],
@@ -31,11 +31,6 @@ const NO_COMMANDS: [&[&str]; 43] = [
     &["play", "air.bin", "8", "2007664"],
     &["play", "air.bin", "8", ""],
     &["play", "", "8"],
-    &["line", "a", "l"],
-    &["line", "a", "a", "1"],
-    &["line", "a", "l", "18446744073709551616"],
-    &["line", "a", "l", "+1"],
-    &["line", "a", "", "1"],
     &["play-line", "l.bin"],
     &["play-line", "", "8"],
     &["play-line", "l.bin", "8+8"],

@@ -1,6 +1,5 @@
 use Rattle.station.proofs.OneOfOne.{one_one}
 use Rattle.station.proofs.OneOutcomes.{one_play, one_play_line, one_show}
-use Rattle.station.proofs.OneLines.{one_write_line}
 use Rattle.station.proofs.OneRuns.{one_run}
 use Rattle.station.proofs.OneSends.{one_send}
 use Rattle.station.proofs.OneStations.{one_station}
@@ -12,9 +11,6 @@ returns-clause-play c = one_play
 
 pub returns-clause-play_line : goal.returns-clause-play_line
 returns-clause-play_line c = one_play_line
-
-pub returns-clause-write_line : goal.returns-clause-write_line
-returns-clause-write_line c = one_write_line
 
 pub returns-clause-show : goal.returns-clause-show
 returns-clause-show c = one_show

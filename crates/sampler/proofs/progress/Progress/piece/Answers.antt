@@ -1,7 +1,7 @@
 use Rattle.std.proofs.Common.{refl, ◌∙◌}
 use Rattle.wires.proofs.Pieces.{none_left}
 use Rattle.sampler.proofs.Reading.{gives_none, then_piece}
-use Rattle.sampler.proofs.sampled.SampledBitSource.piece.Goals as goal
+use Rattle.sampler.proofs.progress.Progress.piece.Goals as goal
 
 pub returns : goal.returns
 returns g c =

@@ -1,6 +1,6 @@
 use Rattle.std.proofs.Common.{arith}
 use Rattle.sampler.proofs.Reading.{not_asked, reads}
-use Rattle.sampler.proofs.sampled.Sampled.read.Goals as goal
+use Rattle.sampler.proofs.progress.Progress.read.Goals as goal
 
 pub returns-clause-fills : goal.returns-clause-fills
 returns-clause-fills g c =
