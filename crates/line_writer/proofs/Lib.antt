@@ -1,0 +1,5 @@
+pub mod Appending
+pub mod LineWriting
+pub mod Reading
+pub mod SampleBytes
+pub mod SampleCount

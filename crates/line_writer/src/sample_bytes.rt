@@ -2,6 +2,7 @@
 
 ghost use Rattle.bits.specs.Bits.{bits_of, bytes_bits};
 ghost use Rattle.std.specs.Prelude.{◌≡◌, ◌*◌, ◌≤◌, ◌++◌, IsTrue, length};
+ghost use Rattle.wires.specs.Stacked.{are_bytes};
 
 use wires::source::BitSource;
 
@@ -39,6 +40,7 @@ pub(crate) fn fill<B: BitSource>(samples: &mut B, into: &mut [u8])
     ensures steady { IsTrue (B.state samples.new).steady }
     ensures length { length into.new ≡ length into.old }
     ensures takes { (B.state samples.old).left ≡ bytes_bits into.new ++ (B.state samples.new).left }
+    ensures are { IsTrue (are_bytes into.new) }
     ensures lent { (B.state samples.new).lent ≡ (B.state samples.old).lent }
 {
     for at in 0..into.len() {

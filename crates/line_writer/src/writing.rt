@@ -5,6 +5,7 @@ ghost use Rattle.line_writer.specs.LineFile.{AppendsBits, ReadsWhole, WritesLine
 ghost use Rattle.sampler.specs.Strayed.{strayed};
 ghost use Rattle.std.specs.Prelude.{◌≡◌, ◌≢◌, ◌*◌, ◌+◌, ◌≤◌, ◌++◌, IsTrue, length};
 ghost use Rattle.wires.specs.Files.{AppendsTo};
+ghost use Rattle.wires.specs.Stacked.{are_bytes};
 
 use crate::memory::InMemory;
 use crate::sample_bytes::fill;
@@ -128,6 +129,7 @@ fn append_next<F: Shelf, B: BitSource>(
     ensures told { IsTrue (B.state bits.new).tells }
     ensures steady { IsTrue (B.state bits.new).steady }
     ensures takes { (B.state bits.old).left ≡ bytes_bits buffer.new ++ (B.state bits.new).left }
+    ensures are { IsTrue (are_bytes buffer.new) }
     ensures appends { AppendsTo (F.state shelf.old) (F.state shelf.new) name.now buffer.new result }
 {
     fill(bits, buffer);
