@@ -1,11 +1,11 @@
 -- What `line` comes to where no call fails.
-use Rattle.std.proofs.Common.{◌≡◌, ◌≢◌, ◌⊎◌, inl, inr, ℕ, ◌<◌, ◌≤◌, List, length, IsTrue, refl, sym, ◌∙◌, ap, subst, arith}
+use Rattle.std.proofs.Common.{◌≡◌, ◌≢◌, inl, inr, ℕ, List, refl, sym, ◌∙◌, ap, subst, arith}
 use Rattle.wires.specs.Files.{Files}
 use Rattle.endings.specs.declared.statuses.Status.{Status}
 use Rattle.endings.specs.declared.statuses.Status.TheVariants.{Done, FileFault, Memory, TooLong}
-use Rattle.line_writer.specs.LineFile.{AirTooLong, LineFault, OthersStand, WritesLine, WroteLine}
-use Rattle.station.specs.OneOutcome.{FitWriteLine, LeftAlike, OneWriteLine}
-use Rattle.station.specs.Rows.{Objects, Streams}
+use Rattle.line_writer.specs.LineFile.{LineFault, OthersStand, WritesLine}
+use Rattle.station.specs.OneOutcome.{FitWriteLine, OneWriteLine}
+use Rattle.station.specs.Rows.{Streams}
 use Rattle.station.proofs.LeftAlike.{same_or_other, same_said}
 use Rattle.station.proofs.OneBytes.{one_bytes}
 

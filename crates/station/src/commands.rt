@@ -77,13 +77,14 @@ fn line_words(words: &[String]) -> Option<(&str, &str, u64)>
     if air.is_empty() || line.is_empty() {
         return None;
     }
-    if air.as_str() == line.as_str() {
+    let (air, line) = (air.as_str(), line.as_str());
+    if air == line {
         return None;
     }
     let Some(seed) = seed_of(seed.as_str()) else {
         return None;
     };
-    Some((air.as_str(), line.as_str(), seed))
+    Some((air, line, seed))
 }
 
 /// Reads what follows `station`.

@@ -14,5 +14,5 @@ returns g c = record {
   err_well = told_well c.act-outcome.result _ _ c.tell_outcome.result c.tell_outcome.ensures;
 }
 
-pub act-outcome-requires : goal.act-requires
+pub act-outcome-requires : goal.act-outcome-requires
 act-outcome-requires g c = files_differ _ _ c.parse.ensures
