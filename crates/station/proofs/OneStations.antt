@@ -16,6 +16,7 @@ use Rattle.station.specs.OneStation.{FitStation, OneStation}
 use Rattle.station.specs.ReadFile.{Unharmed}
 use Rattle.station.specs.OneOutcome.{LeftAlike}
 use Rattle.station.specs.Rows.{Objects, around}
+use Rattle.serving.specs.Protocols.{tap}
 use Rattle.serving.specs.Served.{FitOut, FitShelf, FitWire, airs}
 use Rattle.serving.specs.Serving.{Around, AtDone, HasServed}
 use Rattle.station.specs.StationRows.{ServedBy, StationRow, with_shelf}
@@ -26,7 +27,7 @@ use Rattle.station.proofs.OneSettings.{ok_and_err, one_err, one_ok}
 
 -- a shelf of which a file was read is as fit
 fit_after : (settings : Parts) (spare most : ℕ) (wire : Line) (old now : Files) (name file : List ℕ) → IsTrue old.tells → IsTrue old.steady → IsTrue (old.there name) → Unharmed name old now
-    → FitShelf settings spare wire old file most → FitShelf settings spare wire now file most
+    → FitShelf tap settings spare wire old file most → FitShelf tap settings spare wire now file most
 fit_after settings spare most wire old now name file t s there h fit =
     let back : all_files old ≡ all_files now = sym h.kept.files in
     record {
@@ -38,8 +39,8 @@ fit_after settings spare most wire old now name file t s there h fit =
     }
 
 -- over fit objects serving comes to Done
-serves : (settings : Parts) (spare most : ℕ) (old new : Around) (address name : List ℕ) (status : Status) → FitWire settings spare old.wire most → FitShelf settings spare old.wire old.shelf name most → FitOut old.out most
-    → HasServed settings spare old new address name most status → (status ≡ Done) × AtDone settings spare old new address name most
+serves : (settings : Parts) (spare most : ℕ) (old new : Around) (address name : List ℕ) (status : Status) → FitWire tap settings spare old.wire most → FitShelf tap settings spare old.wire old.shelf name most → FitOut old.out most
+    → HasServed tap settings spare old new address name most status → (status ≡ Done) × AtDone tap settings spare old new address name most
 serves settings spare most old new address name Done wire shelf out h = (refl, h)
 serves settings spare most old new address name WireFault wire shelf out h =
     let few : length h.sessions ≤ most = elim h.few [ inl fewer ↦ omega (arith, fewer) | inr none ↦ omega (arith, ap length none) ] in
@@ -56,7 +57,7 @@ pub record IsServed (settings address air : List ℕ) (count : ℕ) (old new : A
   pub tells : IsTrue shelf.tells
   pub kept : all_files shelf ≡ all_files old.shelf
   pub settings_are : settings_of (old.shelf.file settings) ≡ Ok parts
-  pub done : AtDone parts parts.cells (with_shelf old shelf) new address air count
+  pub done : AtDone tap parts parts.cells (with_shelf old shelf) new address air count
   pub outcome_is : outcome ≡ Ended Done
 
 -- The settings are refused, and nothing was touched.

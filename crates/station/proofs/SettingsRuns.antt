@@ -14,6 +14,7 @@ use Rattle.endings.specs.declared.statuses.Status.{Status}
 use Rattle.endings.specs.declared.statuses.Status.TheVariants.{BadPages, BadSum, BadText, Done, FileFault, InputFault, LogonRefused, Memory, NotBlock, OutFault, Settings, SomeUnsent, TooLong, Usage, WireFault}
 use Rattle.listening.specs.PageLines.{play_lines}
 use Rattle.station.specs.ReadFile.{HasNoSettings, ReadSettings}
+use Rattle.serving.specs.Protocols.{tap}
 use Rattle.serving.specs.Serving.{Around, HasServed}
 use Rattle.station.specs.StationRows.{AreFileBits, ServedBy, StationRow, TrialRow, TriedBy, TriesFile, with_shelf}
 use Rattle.serving.specs.Trying.{Tries}
@@ -46,7 +47,7 @@ served_by address settings air count old new parts s shelf n status e k read h =
   parts = parts;
   shelf = shelf;
   read = read;
-  served = subst (λ (m : ℕ). HasServed parts m (with_shelf old shelf) new address air count status) k
+  served = subst (λ (m : ℕ). HasServed tap parts m (with_shelf old shelf) new address air count status) k
       (subst (λ (p : Parts). HasServed p n (with_shelf old shelf) new address air count status) e h);
 }
 

@@ -16,10 +16,8 @@ loop-init g c = record {
   cells_stay = ap (λ (h : StationState). cells h.pool) c.self.view_is;
   so_far = (
     [],
-    subst (λ (h : StationState). Answering h.settings h.pool.spare (g.I.Source.state c.args.input.now) (g.I.Source.state c.args.input.now) h.pool c.self.inside.pool c.begin.new.self
-        (g.O.Sink.state c.args.out.now) (g.O.Sink.state c.args.out.now) [] []) c.self.view_is (begins _ _ c.self.inside.pool _ _
-        (subst (λ (password : Option (List ℕ)). Stands password (directory_of c.self.inside.settings) c.self.inside.pool.spare c.begin.new.self [] unheard c.self.inside.pool.spare) c.self.invariant.password
-        (c.begin.ensures.stands (directory_of c.self.inside.settings) c.self.inside.pool.spare))),
+    subst (λ (h : StationState). Answering h.settings h.pool.spare (g.I.Source.state c.args.input.now) (g.I.Source.state c.args.input.now) h.pool c.self.inside.pool c.start.new.self
+        (g.O.Sink.state c.args.out.now) (g.O.Sink.state c.args.out.now) [] []) c.self.view_is (begins _ _ c.self.inside.pool _ _ (c.start.ensures c.self.inside.pool.spare)),
     omega arith,
   );
 }
