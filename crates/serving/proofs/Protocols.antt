@@ -1,5 +1,5 @@
 -- What holds of the sessions of each protocol.
-use Rattle.std.proofs.Common.{◌≡◌, ◌≢◌, ℕ, ◌≤◌, ◌<◌, Bool, true, false, ◌||◌, List, [], ◌∷◌, ◌++◌, append-nil, append_assoc, length, length-append, map, ◌+◌, Option, Some, None, refl, sym, ◌∙◌, ap, subst, arith}
+use Rattle.std.proofs.Common.{◌≡◌, ◌≢◌, ℕ, ◌≤◌, Bool, true, false, ◌||◌, List, [], ◌∷◌, ◌++◌, append-nil, append_assoc, length, length-append, map, ◌+◌, Option, Some, None, refl, sym, ◌∙◌, ap, subst, arith}
 use Rattle.std.proofs.lemmas.Grind.{flat_map-append}
 use Rattle.std.proofs.lemmas.List.{map-append}
 use Rattle.std.proofs.lemmas.List.Folds.{list_any-append}
@@ -28,7 +28,7 @@ use Rattle.serving.proofs.Decisions.{TapFed, ended_stays, few_heard, has_end-sai
 use Rattle.serving.proofs.SnppSessions.{snpp_few, snpp_final-said, snpp_one, snpp_reply-said, snpp_silent, snpp_stays}
 use Rattle.serving.specs.declared.session.SessionEnd.{SessionEnd}
 use Rattle.serving.specs.declared.session.SessionEnd.TheVariants.{HungUp, LineLost}
-use Rattle.serving.specs.Protocols.{AnswerIn, IsSessionIn, Protocol, SessionIn, StandsIn, StateIn, answers_in, end_in, ends_as, greeting_in, has_last, is_last, pages_in, replies_in, reply_in, said_in, snpp, spoken, tap}
+use Rattle.serving.specs.Protocols.{AnswerIn, IsSessionIn, Protocol, SessionIn, StandsIn, StateIn, answers_in, end_in, greeting_in, has_last, is_last, pages_in, replies_in, reply_in, said_in, snpp, spoken, tap}
 use Rattle.serving.specs.Sessions.{Fed, HasRoomForReplies}
 use Rattle.serving.specs.SnppSessions.{snpp_session_for}
 use Rattle.serving.specs.TapSessions.{end_decided}

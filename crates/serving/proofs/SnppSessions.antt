@@ -1,5 +1,5 @@
 -- What the sessions of SNPP are for a connection.
-use Rattle.std.proofs.Common.{◌≡◌, ℕ, ◌+◌, ◌≤◌, ◌<◌, Bool, true, false, ◌||◌, cond, List, [], ◌∷◌, ◌++◌, append-nil, length, take, map, refl, sym, ◌∙◌, ap, subst, arith, ◌⊎◌, inl, inr}
+use Rattle.std.proofs.Common.{◌≡◌, ℕ, ◌≤◌, ◌<◌, Bool, true, false, ◌||◌, cond, List, [], ◌∷◌, ◌++◌, append-nil, length, take, map, Option, Some, None, refl, sym, ◌∙◌, ap, subst, arith, ◌⊎◌, inl, inr}
 use Rattle.std.proofs.lemmas.Bool.{cases_lt}
 use Rattle.std.specs.Prelude.{flat_map}
 use Rattle.std.proofs.lemmas.List.{length-map, map-append}
@@ -16,7 +16,12 @@ use Rattle.snpp_entry.specs.Lines.{cut, without_cr}
 use Rattle.snpp_entry.specs.Replies.{snpp_reply}
 use Rattle.snpp_entry.specs.Rows.{Outcome}
 use Rattle.snpp_entry.specs.Session.{SnppCourse, SnppSession, course_after, has_bye, is_bye, is_final, is_for_length, outcome_answers, outcome_of_piece, session, snpp_is_too_long, snpp_start, snpp_tell, told_of}
-use Rattle.snpp_entry.specs.State.{SnppIsOver, SnppStandsAt, SnppState, snpp_said}
+use Rattle.snpp_entry.specs.State.{SnppIsOver, SnppHearsOn, SnppStands, SnppStandsAt, SnppState, snpp_said}
+use Rattle.page_pool.specs.Pool.{Pool}
+use Rattle.serving.specs.declared.session.SessionEnd.{SessionEnd}
+use Rattle.serving.specs.declared.session.SessionEnd.TheVariants.{Ended, Forced}
+use Rattle.serving.specs.Protocols.{snpp}
+use Rattle.serving.specs.Sessions.{Fed}
 use Rattle.serving.specs.SnppSessions.{SnppStandsFor, snpp_session_for}
 
 -- the answer to a line that ends the session is Bye
@@ -147,3 +152,32 @@ snpp_final-said Missing h = refl
 snpp_final-said Pager h = refl
 snpp_final-said Text h = refl
 snpp_final-said Room h = refl
+
+-- ---- one byte more
+
+-- the end by this answer is the end of the longer session
+snpp_ends : (a : SnppAnswer) (answers : List SnppAnswer) → list_any is_final answers ≡ false
+    → cond (is_final a) (Some (cond (is_for_length a) Forced Ended)) None ≡ cond (is_final a) (Some (cond (list_any is_for_length (answers ++ snpp_said a)) Forced Ended)) None
+snpp_ends Bye answers h = ap (λ (b : Bool). Some (cond b Forced Ended)) (sym (length_last answers Bye h))
+snpp_ends TooLong answers h = ap (λ (b : Bool). Some (cond b Forced Ended)) (sym (length_last answers TooLong h))
+snpp_ends other answers h = refl
+
+pub snpp_fed : (settings : Parts) (spare : ℕ) (old state : SnppState) (bytes : List ℕ) (byte : ℕ) (s : SnppSession) (a : SnppAnswer) (before after : Pool) (reply : List ℕ) (end : Option SessionEnd)
+    → SnppStandsFor settings spare old bytes s before.spare → list_any is_final s.answers ≡ false → SnppHearsOn (directory_of settings) spare state (map char_of bytes) (char_of byte) a before after
+    → reply ≡ snpp_reply a → end ≡ cond (is_final a) (Some (cond (is_for_length a) Forced Ended)) None → Fed snpp settings spare state bytes byte s reply end before after
+snpp_fed settings spare old state bytes byte s a before after reply end stood none h said ends =
+    let longer = snpp_session_for settings spare (bytes ++ byte ∷ []) in
+    let x : map char_of (bytes ++ byte ∷ []) ≡ map char_of bytes ++ char_of byte ∷ [] = map-append char_of bytes (byte ∷ []) in
+    let answers : longer.answers ≡ s.answers ++ snpp_said a =
+    ap (λ (z : List ℕ). (session (directory_of settings) spare z).answers) x ∙ (h.answers_are ∙ ap (λ (t : SnppSession). t.answers ++ snpp_said a) (sym stood.session_is)) in
+    record {
+      longer = longer;
+      gained = h.gained;
+      answer = a;
+      stands = record { stands = subst (λ (z : List ℕ). SnppStands (directory_of settings) spare state z after.spare) (sym x) h.stands; session_is = refl };
+      answers_are = answers;
+      pages_are = ap (λ (z : List ℕ). (session (directory_of settings) spare z).pages) x ∙ (h.pages_are ∙ ap (λ (t : SnppSession). t.pages ++ h.gained) (sym stood.session_is));
+      pool = h.pool;
+      reply_is = said;
+      end_is = ends ∙ (snpp_ends a s.answers none ∙ ap (λ (z : List SnppAnswer). cond (is_final a) (Some (cond (list_any is_for_length z) Forced Ended)) None) (sym answers));
+    }

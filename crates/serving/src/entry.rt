@@ -7,19 +7,22 @@
 //! `Protocol`.
 
 ghost use Rattle.std.specs.Prelude.{◌≡◌, ℕ, ◌≤◌, [], false, List, Option, Some, None, length, if◌then◌else◌};
-ghost use Rattle.serving.specs.Protocols.{Protocol, SessionIn, StandsIn, StateIn, greeting_in, has_last, line_in, tap, unheard_in};
+ghost use Rattle.serving.specs.declared.session.SessionEnd.TheVariants.{Ended, Forced};
+ghost use Rattle.serving.specs.Protocols.{Protocol, SessionIn, StandsIn, StateIn, greeting_in, has_last, line_in, snpp, tap, unheard_in};
 ghost use Rattle.serving.specs.ReportLine.{longest_line};
 ghost use Rattle.serving.specs.Sessions.{Fed};
 ghost use Rattle.serving.specs.TapSessions.{end_decided};
+ghost use Rattle.snpp_entry.specs.Session.{is_final, is_for_length};
 ghost use Rattle.subscribers.specs.Directory.{Directory};
 ghost use Rattle.subscribers.specs.Parts.{Parts};
 ghost use Rattle.tap_terminal.specs.Session.{Session, is_end};
 ghost use Rattle.tap_terminal.specs.State.{Stands};
 ghost use Rattle.wires.specs.Written.{Puts};
 
-use crate::reporting::put_report;
+use crate::reporting::{put_report, put_snpp_report};
 use crate::session::SessionEnd;
 use page_pool::Pool;
+use snpp_entry::{Snpp, SnppAnswer, greeting, reply as snpp_reply};
 use subscribers::Settings;
 use tap_terminal::{Answer, Terminal, reply};
 use wires::Failed;
@@ -112,5 +115,49 @@ fn ended(terminal: &Terminal, answer: Answer) -> Option<SessionEnd>
         | Answer::Ack
         | Answer::Nak
         | Answer::Rs(_) => None,
+    }
+}
+
+impl EntryLine for Snpp {
+    ghost protocol = { snpp };
+
+    ghost state = { λ s. s };
+
+    fn start(&mut self, _settings: &Settings) {
+        self.begin();
+    }
+
+    fn greeting(&self) -> &'static [u8] {
+        greeting()
+    }
+
+    fn respond(&mut self, byte: u8, settings: &Settings, pool: &mut Pool) -> Response {
+        let answer = self.feed(byte, settings, pool);
+        Response {
+            reply: snpp_reply(answer),
+            end: snpp_ended(answer),
+        }
+    }
+
+    fn put_line<O: Sink>(&self, number: u32, end: SessionEnd, out: &mut O) -> Result<(), Failed> {
+        put_snpp_report(number, end, self.report(), out)
+    }
+}
+
+/// How a session ended, where this answer ended it.
+fn snpp_ended(answer: SnppAnswer) -> Option<SessionEnd>
+    ensures { result ≡ (if is_final answer then Some (if is_for_length answer then Forced else Ended) else None) }
+{
+    match answer {
+        SnppAnswer::Bye => Some(SessionEnd::Ended),
+        SnppAnswer::TooLong => Some(SessionEnd::Forced),
+        SnppAnswer::Nothing
+        | SnppAnswer::Ok
+        | SnppAnswer::Command
+        | SnppAnswer::Twice
+        | SnppAnswer::Missing
+        | SnppAnswer::Pager
+        | SnppAnswer::Text
+        | SnppAnswer::Room => None,
     }
 }

@@ -20,6 +20,8 @@ mod serving_tests;
 pub mod session;
 #[cfg(test)]
 mod session_tests;
+#[cfg(test)]
+mod snpp_tests;
 mod talking;
 pub mod trial;
 #[cfg(test)]

@@ -10,10 +10,11 @@
 ghost use Rattle.std.specs.Prelude.{◌≡◌, ℕ, ◌+◌, ◌≤◌, List, length, OnOk, []};
 ghost use Rattle.air.specs.Sends.{SendsTransmission};
 ghost use Rattle.page_pool.specs.Pool.{cells, pages};
-ghost use Rattle.serving.specs.Protocols.{StateIn, tap};
+ghost use Rattle.serving.specs.Protocols.{StateIn, snpp, tap};
 ghost use Rattle.serving.specs.Served.{Served};
 ghost use Rattle.serving.specs.Leaves.{Further, Serves, state_after};
 ghost use Rattle.serving.specs.Serving.{Around, SendsTo, SoFar};
+ghost use Rattle.snpp_entry.specs.State.{SnppState};
 ghost use Rattle.wires.specs.Stacked.{bits_over};
 
 use crate::entry::EntryLine;
@@ -22,6 +23,7 @@ use crate::talking::session_on;
 use air::{Sent, transmit};
 use endings::statuses::Status;
 use page_pool::Pool;
+use snpp_entry::Snpp;
 use subscribers::Settings;
 use wires::Failed;
 use wires::shelf::{Appending, Shelf};
@@ -56,6 +58,42 @@ impl Station {
         self.pool.clear();
         serve_on(
             &mut self.terminal,
+            &self.settings,
+            &mut self.pool,
+            wire,
+            shelf,
+            address,
+            air,
+            count,
+            out,
+        )
+    }
+
+    /// Listens at an address and serves `count` connections by the SNPP entry line, or as many as come. After each session it appends the
+    /// transmission of the pages that were queued in it to the file of this name, which it makes fresh at first, and puts the session's
+    /// report line to `out`. It begins by taking all pages out of the pool, and takes no memory. `report` stays that of the last TAP
+    /// session.
+    ///
+    /// The statuses and their causes are those of `serve`.
+    pub fn serve_snpp<W: Wire, F: Shelf, O: Sink>(
+        &mut self,
+        wire: &mut W,
+        shelf: &mut F,
+        address: &str,
+        air: &str,
+        count: u32,
+        out: &mut O,
+    ) -> Status
+        ensures settings { self.new.settings ≡ self.old.settings }
+        ensures terminal { self.new.desk ≡ self.old.desk }
+        ensures cells_are { cells self.new.pool ≡ self.old.settings.cells }
+        ensures serves { (first last : SnppState) × Serves snpp self.old.settings self.old.settings.cells
+            (record { wire = W.state wire.old; shelf = F.state shelf.old; out = O.state out.old })
+            (record { wire = W.state wire.new; shelf = F.state shelf.new; out = O.state out.new }) address.now air.now count first self.new.pool last result }
+    {
+        self.pool.clear();
+        serve_on(
+            &mut Snpp::new(),
             &self.settings,
             &mut self.pool,
             wire,

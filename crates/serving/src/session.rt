@@ -7,14 +7,16 @@
 
 ghost use Rattle.std.specs.Prelude.{◌≡◌, ℕ, [], List, length, IfOk};
 ghost use Rattle.page_pool.specs.Pool.{cells};
-ghost use Rattle.serving.specs.Protocols.{tap};
+ghost use Rattle.serving.specs.Protocols.{snpp, tap};
 ghost use Rattle.serving.specs.Sessions.{Closes, Ran};
 ghost use Rattle.serving.specs.TapSessions.{TerminalStandsFor};
+ghost use Rattle.snpp_entry.specs.State.{SnppState};
 ghost use Rattle.tap_terminal.specs.Session.{Session};
 ghost use Rattle.tap_terminal.specs.State.{unheard};
 
 use crate::talking::session_on;
 use page_pool::Pool;
+use snpp_entry::Snpp;
 use std::alloc::Global;
 use std::marker::Model;
 use subscribers::Settings;
@@ -108,5 +110,24 @@ impl Station {
         ensures cells_are { cells self.new.pool ≡ self.old.settings.cells }
     {
         session_on(&mut self.terminal, &self.settings, &mut self.pool, wire)
+    }
+
+    /// Serves the open connection by the SNPP entry line: says the greeting, hears up to 4,096 bytes at a time, and says each reply by one
+    /// call before it hears again. It hangs up at the end. The pages that were queued are in the pool however the session ends, and no call
+    /// takes memory. `report` stays that of the last TAP session.
+    ///
+    /// Ended comes exactly at Bye, and Forced exactly at TooLong, both also where the reply couldn't be said. HungUp comes exactly where
+    /// what was to be heard ended before these and no `hear` and no `say` failed. LineLost comes exactly where one of these failed and none
+    /// of these replies had been decided, and never over a steady wire with a connection open that has room for the greeting and the
+    /// replies to all that is to be heard there. Where the greeting couldn't be said, nothing was heard. A `hang_up` that fails changes no
+    /// answer.
+    pub fn snpp_session<W: Wire>(&mut self, wire: &mut W) -> SessionEnd
+        ensures settings { self.new.settings ≡ self.old.settings }
+        ensures terminal { self.new.desk ≡ self.old.desk }
+        ensures ran { (state : SnppState) × Ran snpp self.old.settings self.old.pool.spare (W.state wire.old) (W.state wire.new) self.old.pool self.new.pool state result }
+        ensures closes { Closes snpp self.old.settings self.old.pool.spare (W.state wire.old) (W.state wire.new) }
+        ensures cells_are { cells self.new.pool ≡ self.old.settings.cells }
+    {
+        session_on(&mut Snpp::new(), &self.settings, &mut self.pool, wire)
     }
 }

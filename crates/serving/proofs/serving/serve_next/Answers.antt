@@ -1,4 +1,4 @@
-use Rattle.std.proofs.Common.{false, true, ◌∙◌, arith, inr, refl, sym}
+use Rattle.std.proofs.Common.{false, true, arith, inr, refl, sym}
 use Rattle.serving.proofs.Servings.{at_append_fault, at_done, at_out_fault, at_wire_fault, closes_here, last_state, one_more, opened_so, ran_here}
 use Rattle.serving.proofs.serving.serve_next.Goals as goal
 

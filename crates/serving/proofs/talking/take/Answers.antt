@@ -1,4 +1,3 @@
-use Rattle.std.proofs.Common.{length}
 use Rattle.serving.proofs.Steps.{goes, quiet}
 use Rattle.serving.proofs.Stops.{ended, is_none, is_some, lost}
 use Rattle.serving.proofs.talking.take.Goals as goal

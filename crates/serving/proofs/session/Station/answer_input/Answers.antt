@@ -1,10 +1,7 @@
-use Rattle.std.proofs.Common.{ℕ, List, [], ◌++◌, ◌∙◌, take, length-append, ap, subst, sym, arith}
+use Rattle.std.proofs.Common.{[], ◌++◌, ◌∙◌, take, length-append, ap, subst, sym, arith}
 use Rattle.std.proofs.lemmas.List.{length-take-le}
 use Rattle.subscribers.specs.Parts.{Parts}
-use Rattle.std.specs.Prelude.{Option}
 use Rattle.page_pool.specs.Pool.{cells}
-use Rattle.subscribers.specs.Directory.{directory_of}
-use Rattle.tap_terminal.specs.State.{Stands, unheard}
 use Rattle.serving.specs.Answering.{Answering, StoppedUnprinted}
 use Rattle.serving.specs.StationState.{StationState}
 use Rattle.serving.proofs.Answered.{answered_all, answered_broken, answered_to_end, begins, course_ends, course_goes, few_taken, takes_more}
