@@ -28,7 +28,7 @@ use Rattle.serving.proofs.Decisions.{TapFed, ended_stays, few_heard, has_end-sai
 use Rattle.serving.proofs.SnppSessions.{snpp_few, snpp_final-said, snpp_one, snpp_reply-said, snpp_silent, snpp_stays}
 use Rattle.serving.specs.declared.session.SessionEnd.{SessionEnd}
 use Rattle.serving.specs.declared.session.SessionEnd.TheVariants.{HungUp, LineLost}
-use Rattle.serving.specs.Protocols.{AnswerIn, IsSessionIn, Protocol, SessionIn, StandsIn, StateIn, answers_in, end_in, greeting_in, has_last, is_last, pages_in, replies_in, reply_in, said_in, snpp, spoken, tap}
+use Rattle.serving.specs.Protocols.{AnswerIn, IsSessionIn, Protocol, SessionIn, StandsIn, StateIn, answers_in, end_in, greeting_in, has_last, is_last, queued_in, replies_in, reply_in, said_in, snpp, spoken, tap}
 use Rattle.serving.specs.Sessions.{Fed, HasRoomForReplies}
 use Rattle.serving.specs.SnppSessions.{snpp_session_for}
 use Rattle.serving.specs.TapSessions.{end_decided}
@@ -91,11 +91,11 @@ cells_stay old new (page ∷ gained) h =
     cells_stay mid new gained h.2 ∙ omega (arith, one, two, (h.1).spare)
 
 -- the pages since the beginning
-pub pages_on : (p : Protocol) (settings : Parts) (spare : ℕ) (before pool pool2 : Pool) (state : StateIn p) (bytes : List ℕ) (byte : ℕ) (session : SessionIn p) (reply : List ℕ) (end : Option SessionEnd) → pages pool ≡ pages before ++ pages_in p session
-    → (h : Fed p settings spare state bytes byte session reply end pool pool2) → pages pool2 ≡ pages before ++ pages_in p h.longer
+pub pages_on : (p : Protocol) (settings : Parts) (spare : ℕ) (before pool pool2 : Pool) (state : StateIn p) (bytes : List ℕ) (byte : ℕ) (session : SessionIn p) (reply : List ℕ) (end : Option SessionEnd) → pages pool ≡ pages before ++ queued_in p session
+    → (h : Fed p settings spare state bytes byte session reply end pool pool2) → pages pool2 ≡ pages before ++ queued_in p h.longer
 pages_on p settings spare before pool pool2 state bytes byte session reply end e h =
     pages_gain pool pool2 h.gained h.pool
-    ∙ (ap (λ (z : List Page). z ++ h.gained) e ∙ (append_assoc (pages before) (pages_in p session) h.gained ∙ ap (λ (z : List Page). pages before ++ z) (sym h.pages_are)))
+    ∙ (ap (λ (z : List Page). z ++ h.gained) e ∙ (append_assoc (pages before) (queued_in p session) h.gained ∙ ap (λ (z : List Page). pages before ++ z) (sym h.pages_are)))
 
 -- the pool gained a page or none
 gains_any : (old new : Pool) (gained : Option Page) → GainsIfAny old new gained → Gains old new (option_to_list gained)
@@ -151,11 +151,10 @@ spoken_front snpp settings spare x y front whole h k =
     let all : whole.answers ≡ front.answers ++ c.answers =
     ap (λ (s : SnppSession). s.answers) k
     ∙ (ap (λ (z : List ℕ). (snpp_session (directory_of settings) spare z).answers) (map-append char_of x y)
-    ∙ (c.answers_are ∙ ap (λ (s : SnppSession). s.answers ++ c.answers) (sym h))) in
-    (
+    ∙ (c.answers_are ∙ ap (λ (s : SnppSession). s.answers ++ c.answers) (sym h))) in (
       snpp_replies c.answers,
       ap (λ (z : List _). greeting_in snpp ++ snpp_replies z) all
-      ∙ (ap (λ (z : List ℕ). greeting_in snpp ++ z) (flat_map-append snpp_reply front.answers c.answers) ∙ sym (append_assoc (greeting_in snpp) (snpp_replies front.answers) (snpp_replies c.answers))),
+          ∙ (ap (λ (z : List ℕ). greeting_in snpp ++ z) (flat_map-append snpp_reply front.answers c.answers) ∙ sym (append_assoc (greeting_in snpp) (snpp_replies front.answers) (snpp_replies c.answers))),
     )
 
 -- where all that is said fits, what is said to a front fits

@@ -13,7 +13,7 @@ use Rattle.wires.specs.Line.{Line, Listens, Opens}
 use Rattle.wires.specs.Stacked.{are_bytes}
 use Rattle.wires.specs.Written.{AppendsFront, Puts, Written}
 use Rattle.serving.specs.declared.session.SessionEnd.{SessionEnd}
-use Rattle.serving.specs.Protocols.{Protocol, StateIn, line_in, pages_in}
+use Rattle.serving.specs.Protocols.{Protocol, StateIn, line_in, queued_in}
 use Rattle.serving.specs.Leaves.{state_after}
 use Rattle.serving.specs.ReportLine.{longest_line}
 use Rattle.serving.specs.Served.{FileAfter, FitOut, FitShelf, Served, airs, line_for, lines}
@@ -37,7 +37,7 @@ made p settings spare mid after empty pool pool2 state end f f2 name r none ran 
   no_page = none;
   ran = ran;
   closes = closes;
-  is_air = subst (λ (ps : List Page). IsAir ps sends.bits) (ran.pages_are ∙ ap (λ (es : List Live). pages (record { live = es; spare = 0; region = [] }) ++ pages_in p ran.session) none) sends.is_air;
+  is_air = subst (λ (ps : List Page). IsAir ps sends.bits) (ran.pages_are ∙ ap (λ (es : List Live). pages (record { live = es; spare = 0; region = [] }) ++ queued_in p ran.session) none) sends.is_air;
 }
 
 pub same_then : (a b c : Files) (n : List ℕ) → SameAt a b n → SameAt b c n → SameAt a c n

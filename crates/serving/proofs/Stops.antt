@@ -10,7 +10,7 @@ use Rattle.wires.specs.Held.{Connection}
 use Rattle.wires.specs.Line.{HangsUp, Hears, Line, Says, last}
 use Rattle.serving.specs.declared.session.SessionEnd.{SessionEnd}
 use Rattle.serving.specs.declared.session.SessionEnd.TheVariants.{HungUp, LineLost}
-use Rattle.serving.specs.Protocols.{AnswerIn, Protocol, SessionIn, StandsIn, StateIn, answers_in, end_in, greeting_in, has_last, is_last, pages_in, said_in, snpp, spoken, tap, unheard_in}
+use Rattle.serving.specs.Protocols.{AnswerIn, Protocol, SessionIn, StandsIn, StateIn, answers_in, end_in, greeting_in, has_last, is_last, queued_in, said_in, snpp, spoken, tap, unheard_in}
 use Rattle.serving.specs.Sessions.{Fed, HasRoomForReplies, GoesOn, IsAnsweredLast, Ran, SessionStop, SessionStops, SessionUnderWay, hear_failed as is_deaf, say_failed as is_mute, silent as is_silent, told as is_told, ungreeted as is_ungreeted}
 use Rattle.endings.specs.Talk.{Calm, Grew, Talked, here}
 use Rattle.serving.proofs.Protocols.{cells_stay, few_bytes, fits_front, not_lost, one_said, pages_on, session_in}
@@ -33,7 +33,7 @@ no_last tap = refl
 no_last snpp = refl
 
 -- and has no pages
-no_pages : (p : Protocol) (pool : Pool) → pages pool ≡ pages pool ++ pages_in p (unheard_in p)
+no_pages : (p : Protocol) (pool : Pool) → pages pool ≡ pages pool ++ queued_in p (unheard_in p)
 no_pages tap pool = sym (append-nil (pages pool))
 no_pages snpp pool = sym (append-nil (pages pool))
 
@@ -95,8 +95,7 @@ pub greeting_failed : {T E : Type 0} (p : Protocol) (settings : Parts) (old now 
     → StandsIn p settings pool.spare state [] (unheard_in p) pool.spare → Says {T = T} old now greeting (Err x) → GoesOn p settings pool.spare old now pool pool state [] [] (Some LineLost)
 greeting_failed {T} {E} p settings old now pool state greeting x is some s g =
     let h : Says {T = T} old now (greeting_in p) (Err x) = subst (λ (z : List ℕ). Says {T = T} old now z (Err x)) is g in
-    let k = talked_cut {T = T} {E = E} old old now [] [] [] (greeting_in p) x (talked_nothing old) refl h in
-    (
+    let k = talked_cut {T = T} {E = E} old old now [] [] [] (greeting_in p) x (talked_nothing old) refl h in (
       record {
         heard = [];
         fed = [];
@@ -252,8 +251,7 @@ ended {T} {E} p settings spare old mid now before pool pool2 state state2 byte h
     let two = some_ends (is_last p h.answer) by (end_in p h.longer) (sym is ∙ h.end_is) in
     (told {T = T} {E = E} p settings spare old mid now before pool pool2 state state2 byte heard ahead reply end x by u h two.0 (is_spoken p settings spare pool pool2 state2 u.fed byte u.session reply end h some) s two.1, s.uses.is_open ∙ u.open_stays, s.hang ∙ u.hang)
 ended {T} {E} p settings spare old mid now before pool pool2 state state2 byte heard ahead reply end (Err x) by u h some is s =
-    let two = some_ends (is_last p h.answer) by (end_in p h.longer) (sym is ∙ h.end_is) in
-    (
+    let two = some_ends (is_last p h.answer) by (end_in p h.longer) (sym is ∙ h.end_is) in (
       say_failed {T = T} {E = E} p settings spare old mid now before pool pool2 state state2 byte heard ahead reply end x by u h (is_spoken p settings spare pool pool2 state2 u.fed byte u.session reply end h some) s
           (two.1 ∙ sym (ap (λ (b : Bool). cond b (end_in p h.longer) LineLost) two.0)),
       s.uses.is_open ∙ u.open_stays,

@@ -63,10 +63,10 @@ abbrev pub answers_in : (p : Protocol) → SessionIn p → List (AnswerIn p)
 answers_in tap session = session.answers
 answers_in snpp session = session.answers
 
--- the pages of a session
-abbrev pub pages_in : (p : Protocol) → SessionIn p → List Page
-pages_in tap session = session.pages
-pages_in snpp session = session.pages
+-- the pages that were queued in a session
+abbrev pub queued_in : (p : Protocol) → SessionIn p → List Page
+queued_in tap session = session.pages
+queued_in snpp session = session.pages
 
 -- the answer, and none for Nothing
 abbrev pub said_in : (p : Protocol) → AnswerIn p → List (AnswerIn p)

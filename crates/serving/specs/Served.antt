@@ -9,7 +9,7 @@ use Rattle.wires.specs.Line.{IsBlank, Keeps, KeepsConnections, KeepsLineAndHang,
 use Rattle.wires.specs.Stacked.{are_bytes}
 use Rattle.wires.specs.Written.{Written}
 use Rattle.serving.specs.declared.session.SessionEnd.{SessionEnd}
-use Rattle.serving.specs.Protocols.{IsSessionIn, Protocol, StateIn, ends_as, line_in, pages_in, spoken}
+use Rattle.serving.specs.Protocols.{IsSessionIn, Protocol, StateIn, ends_as, line_in, queued_in, spoken}
 use Rattle.serving.specs.ReportLine.{longest_line}
 use Rattle.serving.specs.Sessions.{Closes, HasRoomForReplies, Ran}
 
@@ -26,7 +26,7 @@ pub record Served (p : Protocol) (settings : Parts) (spare : ℕ) : Type 0 where
   pub no_page : empty.live ≡ []
   pub ran : Ran p settings spare before after empty pool state end
   pub closes : Closes p settings spare before after
-  pub is_air : IsAir (pages_in p ran.session) bits
+  pub is_air : IsAir (queued_in p ran.session) bits
 
 -- the bits of the transmissions, one after another
 abbrev pub airs : {p : Protocol} {settings : Parts} {spare : ℕ} → List (Served p settings spare) → List Bool

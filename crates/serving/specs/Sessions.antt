@@ -10,7 +10,7 @@ use Rattle.wires.specs.Held.{Connection}
 use Rattle.wires.specs.Line.{Line}
 use Rattle.serving.specs.declared.session.SessionEnd.{SessionEnd}
 use Rattle.serving.specs.declared.session.SessionEnd.TheVariants.{HungUp, LineLost}
-use Rattle.serving.specs.Protocols.{AnswerIn, IsSessionIn, Protocol, SessionIn, StandsIn, StateIn, answers_in, end_in, greeting_in, has_last, is_last, pages_in, reply_in, said_in, spoken}
+use Rattle.serving.specs.Protocols.{AnswerIn, IsSessionIn, Protocol, SessionIn, StandsIn, StateIn, answers_in, end_in, greeting_in, has_last, is_last, queued_in, reply_in, said_in, spoken}
 use Rattle.wires.specs.Fronts.{IsFront}
 use Rattle.endings.specs.Talk.{Calm, Talked, here}
 
@@ -22,7 +22,7 @@ pub record Fed (p : Protocol) (settings : Parts) (spare : ℕ) (state : StateIn 
   pub answer : AnswerIn p
   pub stands : StandsIn p settings spare state (bytes ++ byte ∷ []) longer after.spare
   pub answers_are : answers_in p longer ≡ answers_in p session ++ said_in p answer
-  pub pages_are : pages_in p longer ≡ pages_in p session ++ gained
+  pub pages_are : queued_in p longer ≡ queued_in p session ++ gained
   pub pool : Gains before after gained
   pub reply_is : reply ≡ reply_in p answer
   pub end_is : end ≡ (if is_last p answer then Some (end_in p longer) else None)
@@ -139,7 +139,7 @@ pub record Ran (p : Protocol) (settings : Parts) (spare : ℕ) (old new : Line) 
   pub fed_is : IsFront fed heard
   pub session_is : IsSessionIn p settings spare fed session
   pub stands : StandsIn p settings spare state fed session after.spare
-  pub pages_are : pages after ≡ pages before ++ pages_in p session
+  pub pages_are : pages after ≡ pages before ++ queued_in p session
   pub cells_stay : cells after ≡ cells before
   pub line : Talked old new heard said turns
   pub turns_are : AllByRecursion (IsTurn p settings spare (here old) heard said) turns
@@ -161,7 +161,7 @@ pub record SessionUnderWay (p : Protocol) (settings : Parts) (spare : ℕ) (old 
   pub heard_is : heard ≡ fed ++ ahead
   pub stands : StandsIn p settings spare state fed session pool.spare
   pub no_end : has_last p session ≡ false
-  pub pages_are : pages pool ≡ pages before ++ pages_in p session
+  pub pages_are : pages pool ≡ pages before ++ queued_in p session
   pub cells_stay : cells pool ≡ cells before
   pub line : Talked old now heard (spoken p session) turns
   pub calm : Calm old now (spoken p session)

@@ -109,12 +109,8 @@ fn ended(terminal: &Terminal, answer: Answer) -> Option<SessionEnd>
                 Some(SessionEnd::Ended)
             }
         }
-        Answer::Nothing
-        | Answer::Id
-        | Answer::Go
-        | Answer::Ack
-        | Answer::Nak
-        | Answer::Rs(_) => None,
+        Answer::Nothing | Answer::Id | Answer::Go | Answer::Ack | Answer::Nak | Answer::Rs(_) =>
+            None,
     }
 }
 

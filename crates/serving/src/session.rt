@@ -21,8 +21,8 @@ use std::alloc::Global;
 use std::marker::Model;
 use subscribers::Settings;
 use tap_terminal::{Report, Terminal};
-use wires::wire::Wire;
 use wires::Memory;
+use wires::wire::Wire;
 
 /// How a session ended.
 #[derive(Clone, Copy, Debug, PartialEq, Eq)]

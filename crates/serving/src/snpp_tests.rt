@@ -16,8 +16,7 @@ use wires::wire::Wire;
 const ONE_PAGE: &[u8] = b"PAGE 5551234\r\nMESS HELLO\r\nSEND\r\nQUIT\r\n";
 
 /// Lines that are refused, and goodbye.
-const REFUSED: &[u8] =
-    b"SEND\r\npage 999\r\nPAGE 5550002\r\nMESS abc\r\nSEND\r\nSEND\r\nQUIT\r\n";
+const REFUSED: &[u8] = b"SEND\r\npage 999\r\nPAGE 5550002\r\nMESS abc\r\nSEND\r\nSEND\r\nQUIT\r\n";
 
 /// What is heard, what is said, how the session ends, and how many pages are in the pool.
 type Row = (&'static [u8], &'static [u8], SessionEnd, u32);
