@@ -23,13 +23,12 @@ use Rattle.wires.proofs.Written.{no_ok, still}
 use Rattle.serving.specs.Answering.{AnsweredInput, AnsweredToEnd, Answering, AnswersOn, GainedPages, StoppedBroken, StoppedUnprinted}
 use Rattle.serving.specs.declared.answering.Course.{Course}
 use Rattle.serving.specs.Answers.{answer_line, answer_lines}
-use Rattle.serving.specs.Sessions.{SessionOf, TerminalStandsFor, has_end_answer}
+use Rattle.serving.specs.TapSessions.{SessionOf, TerminalStandsFor, has_end_answer}
 use Rattle.endings.specs.Wrote.{Wrote, WroteFront}
 use Rattle.tap_terminal.proofs.Cells.{cells_gain}
-use Rattle.serving.proofs.Decisions.{Fed, answers_end, few_heard, no_end_on, not_end, pages_on}
+use Rattle.serving.proofs.Decisions.{TapFed, answers_end, few_heard, no_end_on, not_end, pages_on, session_stood, stands_on}
 use Rattle.wires.proofs.Fronts.{splice}
 use Rattle.listening.proofs.Listens.{Wrote-nothing, Wrote-then, WroteFront-then}
-use Rattle.serving.proofs.Steps.{session_stood, stands_on}
 
 -- the line of what is said
 answer_lines-said : (a : Answer) → answer_lines (said a) ≡ answer_line a
@@ -45,7 +44,7 @@ lines_on : (s t : Session) (a : Answer) → t.answers ≡ s.answers ++ said a �
 lines_on s t a e = ap answer_lines e ∙ (flat_map-append answer_line s.answers (said a) ∙ ap (λ (z : List ℕ). answer_lines s.answers ++ z) (answer_lines-said a))
 
 gained_on : (settings : Parts) (spare : ℕ) (before pool pool2 : Pool) (desk : TerminalState) (bytes : List ℕ) (byte : ℕ) (session : Session) (a : Answer) → GainedPages session before pool
-    → (h : Fed settings spare desk bytes byte session a pool pool2) → GainedPages h.longer before pool2
+    → (h : TapFed settings spare desk bytes byte session a pool pool2) → GainedPages h.longer before pool2
 gained_on settings spare before pool pool2 desk bytes byte session a g h = record {
   pages_are = pages_on settings spare before pool pool2 desk bytes byte session a g.pages_are h;
   cells_stay = cells_gain pool pool2 h.gained h.pool ∙ g.cells_stay;
@@ -53,7 +52,7 @@ gained_on settings spare before pool pool2 desk bytes byte session a g h = recor
 
 -- a byte that was answered, and whose answer was printed
 abbrev goes : (settings : Parts) (spare : ℕ) (old now : Left ℕ) (before pool pool2 : Pool) (desk desk2 : TerminalState) (o0 o2 : Written ℕ) (byte : ℕ) (taken ahead : List ℕ) (a : Answer) (o1 : Written ℕ)
-    (u : Answering settings spare old now before pool desk o0 o1 taken (byte ∷ ahead)) → Fed settings spare desk2 u.fed byte u.session a pool pool2
+    (u : Answering settings spare old now before pool desk o0 o1 taken (byte ∷ ahead)) → TapFed settings spare desk2 u.fed byte u.session a pool pool2
     → is_end a ≡ false → Wrote o0 o2 (answer_lines u.session.answers ++ answer_line a) → Answering settings spare old now before pool2 desk2 o0 o2 taken ahead
 goes settings spare old now before pool pool2 desk desk2 o0 o2 byte taken ahead a o1 u h e w = record {
   fed = u.fed ++ byte ∷ [];
@@ -68,7 +67,7 @@ goes settings spare old now before pool pool2 desk desk2 o0 o2 byte taken ahead 
 
 -- a byte that is answered Nothing
 pub passes : (settings : Parts) (spare : ℕ) (old now : Left ℕ) (before pool pool2 : Pool) (desk desk2 : TerminalState) (o0 o : Written ℕ) (byte : ℕ) (taken ahead : List ℕ)
-    (u : Answering settings spare old now before pool desk o0 o taken (byte ∷ ahead)) → Fed settings spare desk2 u.fed byte u.session Nothing pool pool2
+    (u : Answering settings spare old now before pool desk o0 o taken (byte ∷ ahead)) → TapFed settings spare desk2 u.fed byte u.session Nothing pool pool2
     → Answering settings spare old now before pool2 desk2 o0 o taken ahead
 passes settings spare old now before pool pool2 desk desk2 o0 o byte taken ahead u h =
     goes settings spare old now before pool pool2 desk desk2 o0 o byte taken ahead Nothing o u h refl
@@ -77,7 +76,7 @@ passes settings spare old now before pool pool2 desk desk2 o0 o byte taken ahead
 -- an answer that was printed, and isn't the End
 pub prints_on : {T E : Type 0} (settings : Parts) (spare : ℕ) (old now : Left ℕ) (before pool pool2 : Pool) (desk desk2 : TerminalState) (o0 o1 o2 : Written ℕ) (byte : ℕ) (taken ahead piece : List ℕ)
     (a : Answer) (x : T) → (a ≡ End → ⊥) → piece ≡ answer_line a
-    → (u : Answering settings spare old now before pool desk o0 o1 taken (byte ∷ ahead)) → Fed settings spare desk2 u.fed byte u.session a pool pool2 → Puts {E = E} o1 o2 piece (Ok x)
+    → (u : Answering settings spare old now before pool desk o0 o1 taken (byte ∷ ahead)) → TapFed settings spare desk2 u.fed byte u.session a pool pool2 → Puts {E = E} o1 o2 piece (Ok x)
     → Answering settings spare old now before pool2 desk2 o0 o2 taken ahead
 prints_on {T} {E} settings spare old now before pool pool2 desk desk2 o0 o1 o2 byte taken ahead piece a x n p u h k =
     goes settings spare old now before pool pool2 desk desk2 o0 o2 byte taken ahead a o1 u h (not_end a n)
@@ -86,7 +85,7 @@ prints_on {T} {E} settings spare old now before pool pool2 desk desk2 o0 o1 o2 b
 -- an answer that couldn't be printed
 pub unprinted : {T E : Type 0} (settings : Parts) (spare : ℕ) (old now : Left ℕ) (before pool pool2 : Pool) (desk desk2 : TerminalState) (o0 o1 o2 : Written ℕ) (byte : ℕ) (taken ahead piece : List ℕ)
     (a : Answer) (e : E) → piece ≡ answer_line a
-    → (u : Answering settings spare old now before pool desk o0 o1 taken (byte ∷ ahead)) → Fed settings spare desk2 u.fed byte u.session a pool pool2 → Puts {T = T} o1 o2 piece (Err e)
+    → (u : Answering settings spare old now before pool desk o0 o1 taken (byte ∷ ahead)) → TapFed settings spare desk2 u.fed byte u.session a pool pool2 → Puts {T = T} o1 o2 piece (Err e)
     → StoppedUnprinted settings spare old now before pool2 desk2 o0 o2 taken
 unprinted {T} {E} settings spare old now before pool pool2 desk desk2 o0 o1 o2 byte taken ahead piece a e p u h k =
     let stood = stands_on settings spare desk2 u.fed byte u.session a pool pool2 h in
@@ -126,7 +125,7 @@ end_among s t a is e =
 -- the End that was printed
 pub ends : {T E : Type 0} (settings : Parts) (spare : ℕ) (old now : Left ℕ) (before pool pool2 : Pool) (desk desk2 : TerminalState) (o0 o1 o2 : Written ℕ) (byte : ℕ) (taken ahead piece : List ℕ)
     (a : Answer) (x : T) → a ≡ End → piece ≡ answer_line a
-    → (u : Answering settings spare old now before pool desk o0 o1 taken (byte ∷ ahead)) → Fed settings spare desk2 u.fed byte u.session a pool pool2 → Puts {E = E} o1 o2 piece (Ok x)
+    → (u : Answering settings spare old now before pool desk o0 o1 taken (byte ∷ ahead)) → TapFed settings spare desk2 u.fed byte u.session a pool pool2 → Puts {E = E} o1 o2 piece (Ok x)
     → AnsweredToEnd settings spare old now before pool2 desk2 o0 o2 taken
 ends {T} {E} settings spare old now before pool pool2 desk desk2 o0 o1 o2 byte taken ahead piece a x is p u h k =
     let all = u.fed ++ byte ∷ [] in

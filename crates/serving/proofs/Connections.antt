@@ -4,6 +4,7 @@ use Rattle.subscribers.specs.Parts.{Parts}
 use Rattle.wires.proofs.Opened.{Opens-blank}
 use Rattle.wires.proofs.Written.{still}
 use Rattle.wires.specs.Line.{IsBlank, Line, Listens, Opens}
+use Rattle.serving.specs.Protocols.{Protocol}
 use Rattle.serving.specs.Served.{AllFrom, OpenedNext, OpenedNone, Served, ServedInTurn, Waited, airs, line_for, lines}
 
 -- a fact that follows of each of a list
@@ -12,14 +13,14 @@ from-map P Q b [] f h = tt
 from-map P Q b (x ∷ l) f h = (f b x (omega arith) (omega arith) h.0, from-map P Q (b + 1) l (λ k y le lt. f k y (omega arith) (omega arith)) h.1)
 
 -- one line more
-pub lines-append : {settings : Parts} {spare : ℕ} (k : ℕ) (l : List (Served settings spare)) (s : Served settings spare) → lines k (l ++ s ∷ []) ≡ lines k l ++ line_for (k + length l) s
+pub lines-append : {p : Protocol} {settings : Parts} {spare : ℕ} (k : ℕ) (l : List (Served p settings spare)) (s : Served p settings spare) → lines k (l ++ s ∷ []) ≡ lines k l ++ line_for (k + length l) s
 lines-append k [] s = append-nil (line_for k s) ∙ ap (λ (n : ℕ). line_for n s) (sym (add-zero k))
 lines-append k (x ∷ l) s =
     ap (λ (z : List ℕ). line_for k x ++ z) (lines-append (k + 1) l s ∙ (let e : k + 1 + length l ≡ k + suc (length l) = omega arith in ap (λ (n : ℕ). lines (k + 1) l ++ line_for n s) e))
     ∙ sym (append_assoc (line_for k x) (lines (k + 1) l) (line_for (k + suc (length l)) s))
 
 -- one transmission more
-pub airs-append : {settings : Parts} {spare : ℕ} (l : List (Served settings spare)) (s : Served settings spare) → airs (l ++ s ∷ []) ≡ airs l ++ s.bits
+pub airs-append : {p : Protocol} {settings : Parts} {spare : ℕ} (l : List (Served p settings spare)) (s : Served p settings spare) → airs (l ++ s ∷ []) ≡ airs l ++ s.bits
 airs-append [] s = append-nil s.bits
 airs-append (x ∷ l) s = ap (λ (z : List Bool). x.bits ++ z) (airs-append l s) ∙ sym (append_assoc x.bits (airs l) s.bits)
 
@@ -87,11 +88,11 @@ no_wait a = record {
 }
 
 -- a wait after the last session
-pub turn-wait : {settings : Parts} {spare : ℕ} (first was now : Line) (ss : List (Served settings spare)) → ServedInTurn first was ss → OpenedNone was now → ServedInTurn first now ss
+pub turn-wait : {p : Protocol} {settings : Parts} {spare : ℕ} (first was now : Line) (ss : List (Served p settings spare)) → ServedInTurn first was ss → OpenedNone was now → ServedInTurn first now ss
 turn-wait first was now [] h w = none_then first was now h w
 turn-wait first was now (s ∷ ss) h w = (h.0, turn-wait s.after was now ss h.1 w)
 
 -- one session more
-pub turn-append : {settings : Parts} {spare : ℕ} (first was : Line) (ss : List (Served settings spare)) (s : Served settings spare) → ServedInTurn first was ss → OpenedNext was s.before → ServedInTurn first s.after (ss ++ s ∷ [])
+pub turn-append : {p : Protocol} {settings : Parts} {spare : ℕ} (first was : Line) (ss : List (Served p settings spare)) (s : Served p settings spare) → ServedInTurn first was ss → OpenedNext was s.before → ServedInTurn first s.after (ss ++ s ∷ [])
 turn-append first was [] s h w = (next_then first was s.before h w, no_wait s.after)
 turn-append first was (x ∷ ss) s h w = (h.0, turn-append x.after was ss s h.1 w)

@@ -1,7 +1,6 @@
--- What a byte that is fed does to the answers, to the replies and to the pool.
-use Rattle.std.proofs.Common.{◌≡◌, ℕ, ◌+◌, ◌≤◌, Bool, true, false, ◌||◌, cond, List, [], ◌∷◌, ◌++◌, append-nil, append_assoc, length, length-append, map, ◌<◌, Option, Some, None, refl, sym, ◌∙◌, ap, subst, arith, ◌⊎◌, inl, inr}
+-- What a byte that is fed does to the answers and the replies of TAP, and to the pool.
+use Rattle.std.proofs.Common.{◌≡◌, ℕ, ◌≤◌, Bool, true, false, ◌||◌, cond, List, [], ◌∷◌, ◌++◌, append-nil, append_assoc, length, map, ◌<◌, Option, Some, None, refl, sym, ◌∙◌, ap, subst, arith, ◌⊎◌, inl, inr}
 use Rattle.std.proofs.lemmas.Bool.{cases_lt}
-use Rattle.std.proofs.lemmas.Grind.{flat_map-append}
 use Rattle.std.proofs.lemmas.List.{length-map, map-append}
 use Rattle.std.proofs.lemmas.List.Folds.{list_any-append}
 use Rattle.std.specs.Option.{option_to_list}
@@ -11,45 +10,49 @@ use Rattle.subscribers.specs.Parts.{Parts}
 use Rattle.entry_line.specs.Chars.{char_of}
 use Rattle.tap_block.specs.Chars.{characters}
 use Rattle.tap_block.specs.Reading.{items_of}
-use Rattle.tap_terminal.proofs.Fronts.{fronts, session_exists}
+use Rattle.tap_block.proofs.Characters.{characters_on}
+use Rattle.tap_terminal.proofs.Feeds.{stands_session}
 use Rattle.tap_terminal.proofs.Sessions.{too_long}
 use Rattle.tap_terminal.specs.declared.answers.Answer.{Answer}
 use Rattle.tap_terminal.specs.declared.answers.Answer.TheVariants.{Ack, End, Go, Id, Nak, Nothing, Rs}
 use Rattle.subscribers.specs.Directory.{directory_of}
-use Rattle.tap_terminal.specs.State.{TerminalState, GainsIfAny, HearsOn, said}
-use Rattle.tap_terminal.specs.Replies.{replies, reply_of}
+use Rattle.tap_terminal.specs.declared.terminal.Stage.{Stage}
+use Rattle.tap_terminal.specs.declared.terminal.Stage.TheVariants.{Open, Ended, Forced}
+use Rattle.tap_terminal.specs.State.{TerminalState, GainsIfAny, HearsOn, Stands, StandsAt, said}
+use Rattle.tap_terminal.specs.Replies.{reply_of}
+use Rattle.std.specs.Prelude.{flat_map}
 use Rattle.tap_terminal.specs.Session.{IsSession, Session, ItemDecided, answers_of, closing, has_end as told_end, is_end, is_too_long, start, tell}
-use Rattle.wires.specs.Held.{Connection}
-use Rattle.serving.specs.Sessions.{HasRoomForReplies, SessionOf, has_end_answer}
+use Rattle.serving.specs.TapSessions.{SessionOf, TerminalStandsFor, has_end_answer}
 
 -- one byte more was fed
-abbrev pub Fed : Parts → ℕ → TerminalState → List ℕ → ℕ → Session → Answer → Pool → Pool → Type 0
-Fed settings spare desk bytes byte session answer before after =
+abbrev pub TapFed : Parts → ℕ → TerminalState → List ℕ → ℕ → Session → Answer → Pool → Pool → Type 0
+TapFed settings spare desk bytes byte session answer before after =
     HearsOn settings.password (directory_of settings) spare desk (characters bytes) (char_of byte) session answer before after
 
 -- the reply to what is said
-replies-said : (a : Answer) → replies (said a) ≡ reply_of a
-replies-said Nothing = refl
-replies-said Id = append-nil _
-replies-said Go = append-nil _
-replies-said Ack = append-nil _
-replies-said Nak = append-nil _
-replies-said (Rs reason) = append-nil _
-replies-said End = append-nil _
+pub tap_reply-said : (a : Answer) → flat_map reply_of (said a) ≡ reply_of a
+tap_reply-said Nothing = refl
+tap_reply-said Id = append-nil _
+tap_reply-said Go = append-nil _
+tap_reply-said Ack = append-nil _
+tap_reply-said Nak = append-nil _
+tap_reply-said (Rs reason) = append-nil _
+tap_reply-said End = append-nil _
 
--- the replies of one answer more
-pub replies_on : (s t : Session) (a : Answer) → t.answers ≡ s.answers ++ said a → replies t.answers ≡ replies s.answers ++ reply_of a
-replies_on s t a e = ap replies e ∙ (flat_map-append reply_of s.answers (said a) ∙ ap (λ (z : List ℕ). replies s.answers ++ z) (replies-said a))
+-- an answer with a reply is said
+pub tap_one : (a : Answer) → (reply_of a ≡ [] → ⊥) → said a ≡ a ∷ []
+tap_one Nothing h = absurd (h refl)
+tap_one Id h = refl
+tap_one Go h = refl
+tap_one Ack h = refl
+tap_one Nak h = refl
+tap_one (Rs reason) h = refl
+tap_one End h = refl
 
--- an answer that isn't Nothing is said
-pub spoken : (a : Answer) → (a ≡ Nothing → ⊥) → said a ≡ a ∷ []
-spoken Nothing h = absurd (h refl)
-spoken Id h = refl
-spoken Go h = refl
-spoken Ack h = refl
-spoken Nak h = refl
-spoken (Rs reason) h = refl
-spoken End h = refl
+-- one without a reply isn't the End
+pub tap_silent : (a : Answer) → reply_of a ≡ [] → is_end a ≡ false
+tap_silent End h = absurd cc
+tap_silent other h = refl
 
 -- an answer that isn't the End
 pub not_end : (a : Answer) → (a ≡ End → ⊥) → is_end a ≡ false
@@ -62,7 +65,7 @@ not_end Nak h = refl
 not_end (Rs reason) h = refl
 
 -- what is said to an answer that isn't the End has no End
-has_end-said : (a : Answer) → is_end a ≡ false → has_end_answer (said a) ≡ false
+pub has_end-said : (a : Answer) → is_end a ≡ false → has_end_answer (said a) ≡ false
 has_end-said End h = absurd cc
 has_end-said Nothing h = refl
 has_end-said Id h = refl
@@ -84,7 +87,7 @@ pages_gain old new (Some page) h =
 
 -- the pages since the beginning
 pub pages_on : (settings : Parts) (spare : ℕ) (before pool pool2 : Pool) (desk : TerminalState) (bytes : List ℕ) (byte : ℕ) (session : Session) (a : Answer) → pages pool ≡ pages before ++ session.pages
-    → (h : Fed settings spare desk bytes byte session a pool pool2) → pages pool2 ≡ pages before ++ h.longer.pages
+    → (h : TapFed settings spare desk bytes byte session a pool pool2) → pages pool2 ≡ pages before ++ h.longer.pages
 pages_on settings spare before pool pool2 desk bytes byte session a e h =
     pages_gain pool pool2 h.gained h.pool
     ∙ (ap (λ (z : List Page). z ++ option_to_list h.gained) e ∙ (append_assoc (pages before) session.pages (option_to_list h.gained) ∙ ap (λ (z : List Page). pages before ++ z) (sym h.pages_are)))
@@ -119,18 +122,27 @@ few_heard settings spare bytes session h none = by_size (cases_lt (length bytes)
     by_size (inr many) =
         too_long_end told (length (characters bytes)) (ap (λ (s : Session). has_end_answer s.answers) (sym h.session_is) ∙ none) (subst (λ (n : ℕ). 1000000 ≤ n) (sym (length-map bytes char_of)) many)
 
--- the replies of a front are a front of the replies
-pub replies_front : (settings : Parts) (spare : ℕ) (x y : List ℕ) (front whole : Session) → SessionOf settings spare x front → SessionOf settings spare (x ++ y) whole
-    → (rest : List ℕ) × (replies whole.answers ≡ replies front.answers ++ rest)
-replies_front settings spare x y front whole h k =
-    let c = fronts settings.password (directory_of settings) spare (characters x) (characters y) front whole h (subst (λ (z : List ℕ). IsSession settings.password (directory_of settings) spare z whole) (map-append char_of x y) k) in
-    (replies c.answers, ap replies c.answers_are ∙ flat_map-append reply_of front.answers c.answers)
+-- the session that a terminal stands for
+pub session_stood : (settings : Parts) (spare : ℕ) (desk : TerminalState) (bytes : List ℕ) (session : Session) (left : ℕ) → TerminalStandsFor settings spare desk bytes session left → SessionOf settings spare bytes session
+session_stood settings spare desk bytes session left h = stands_session settings.password (directory_of settings) spare desk (characters bytes) session left h
 
--- where the replies to all fit, those to a front fit
-pub fits_front : (settings : Parts) (spare : ℕ) (c : Connection) (x y : List ℕ) (session : Session) → HasRoomForReplies settings spare c → c.rest ≡ x ++ y → SessionOf settings spare x session → length (replies session.answers) ≤ c.room
-fits_front settings spare c x y session f e h =
-    let t = session_exists settings.password (directory_of settings) spare (characters c.rest) in
-    let k = replies_front settings spare x y session t.0 h (subst (λ (z : List ℕ). SessionOf settings spare z t.0) e t.1) in
-    let fit : length (replies t.0.answers) ≤ c.room = f t.0 t.1 in
-    let long : length (replies t.0.answers) ≡ length (replies session.answers) + length k.0 = ap length k.1 ∙ length-append (replies session.answers) k.0 in
-    omega (arith, fit, long)
+-- the terminal stands for one byte more
+pub stands_on : (settings : Parts) (spare : ℕ) (desk : TerminalState) (bytes : List ℕ) (byte : ℕ) (session : Session) (a : Answer) (pool pool2 : Pool) (h : TapFed settings spare desk bytes byte session a pool pool2)
+    → TerminalStandsFor settings spare desk (bytes ++ byte ∷ []) h.longer pool2.spare
+stands_on settings spare desk bytes byte session a pool pool2 h =
+    subst (λ (x : List ℕ). Stands settings.password (directory_of settings) spare desk x h.longer pool2.spare) (sym (characters_on bytes byte)) h.stands
+
+true_false : {B : Type 0} (b : Bool) → b ≡ true → b ≡ false → B
+true_false b h k = cc
+
+-- where an End came, nothing that follows changes the session
+ended_at : (settings : Parts) (spare left : ℕ) (desk : TerminalState) (fed more : List ℕ) (session : Session) (stage : Stage) → StandsAt stage settings.password (directory_of settings) spare desk (characters fed) session left
+    → has_end_answer session.answers ≡ true → SessionOf settings spare (fed ++ more) session
+ended_at settings spare left desk fed more session Open h e =
+    true_false (has_end_answer session.answers) e (ap (λ (s : Session). has_end_answer s.answers) h.session_is ∙ (answers_end (tell (directory_of settings) (start spare) h.items) ∙ h.no_end))
+ended_at settings spare left desk fed more session Ended h e = subst (λ (x : List ℕ). IsSession settings.password (directory_of settings) spare x session) (sym (map-append char_of fed more)) (h (characters more))
+ended_at settings spare left desk fed more session Forced h e = subst (λ (x : List ℕ). IsSession settings.password (directory_of settings) spare x session) (sym (map-append char_of fed more)) (h (characters more))
+
+pub ended_stays : (settings : Parts) (spare left : ℕ) (desk : TerminalState) (fed more : List ℕ) (session : Session) → TerminalStandsFor settings spare desk fed session left
+    → has_end_answer session.answers ≡ true → SessionOf settings spare (fed ++ more) session
+ended_stays settings spare left desk fed more session h e = ended_at settings spare left desk fed more session desk.stage h.at_stage e

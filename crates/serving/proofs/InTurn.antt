@@ -4,7 +4,6 @@ use Rattle.std.specs.List.{AllByRecursion}
 use Rattle.std.specs.Prelude.{if◌then◌else◌}
 use Rattle.std.proofs.lemmas.Bool.{cases_lt}
 use Rattle.subscribers.specs.Parts.{Parts}
-use Rattle.tap_terminal.specs.Session.{Session, is_end}
 use Rattle.wires.proofs.Written.{still}
 use Rattle.wires.specs.Causes.{Rose}
 use Rattle.wires.specs.Held.{Connection}
@@ -13,41 +12,42 @@ use Rattle.serving.specs.declared.session.SessionEnd.{SessionEnd}
 use Rattle.serving.specs.declared.session.SessionEnd.TheVariants.{HungUp, LineLost}
 use Rattle.serving.specs.InTurn.{SessionIsAt, LostRaises, WireAfter}
 use Rattle.serving.specs.Served.{AllFrom, OpenedNext, Served, ServedInTurn}
-use Rattle.serving.specs.Sessions.{SessionStop, SessionStops, hear_failed, end_decided, say_failed, silent, told}
+use Rattle.serving.specs.Protocols.{Protocol, SessionIn, end_in, is_last}
+use Rattle.serving.specs.Sessions.{SessionStop, SessionStops, hear_failed, say_failed, silent, told, ungreeted}
 use Rattle.endings.specs.Talk.{Grew, here}
-use Rattle.serving.proofs.Stops.{not_lost}
+use Rattle.serving.proofs.Protocols.{not_hung_up, not_lost}
 
 -- ---- what the wire is
 
 -- a session on the next connection changes no other connection, and leaves the wire as many
-pub session_keeps : {settings : Parts} {spare : ℕ} (first : Line) (s : Served settings spare) → OpenedNext first s.before → Keeps first s.after
+pub session_keeps : {p : Protocol} {settings : Parts} {spare : ℕ} (first : Line) (s : Served p settings spare) → OpenedNext first s.before → Keeps first s.after
 session_keeps first s o = record {
   tells = s.ran.line.tells ∙ o.waited.keeps.tells;
   count = s.ran.line.count ∙ o.waited.keeps.count;
   lent = s.ran.line.lent ∙ o.waited.keeps.lent;
 }
 
-pub session_opened : {settings : Parts} {spare : ℕ} (first : Line) (s : Served settings spare) → OpenedNext first s.before → IsTrue first.tells → s.after.opened ≡ first.opened + 1
+pub session_opened : {p : Protocol} {settings : Parts} {spare : ℕ} (first : Line) (s : Served p settings spare) → OpenedNext first s.before → IsTrue first.tells → s.after.opened ≡ first.opened + 1
 session_opened first s o t = s.ran.line.opened ∙ o.opened t
 
-pub session_others : {settings : Parts} {spare : ℕ} (first : Line) (s : Served settings spare) → OpenedNext first s.before → IsTrue first.tells → (k : ℕ) → k ≢ first.opened → s.after.connection k ≡ first.connection k
+pub session_others : {p : Protocol} {settings : Parts} {spare : ℕ} (first : Line) (s : Served p settings spare) → OpenedNext first s.before → IsTrue first.tells → (k : ℕ) → k ≢ first.opened → s.after.connection k ≡ first.connection k
 session_others first s o t k ne = s.ran.line.others k (λ _ e. ne (omega (arith, e, o.opened t))) ∙ o.waited.connections k
 
-pub turn-keeps : {settings : Parts} {spare : ℕ} (first now : Line) (ss : List (Served settings spare)) → ServedInTurn first now ss → Keeps first now
+pub turn-keeps : {p : Protocol} {settings : Parts} {spare : ℕ} (first now : Line) (ss : List (Served p settings spare)) → ServedInTurn first now ss → Keeps first now
 turn-keeps first now [] h = h.waited.keeps
 turn-keeps first now (s ∷ ss) h =
     let one = session_keeps first s h.0 in
     let on = turn-keeps s.after now ss h.1 in
     record { tells = on.tells ∙ one.tells; count = on.count ∙ one.count; lent = on.lent ∙ one.lent }
 
-pub turn-opened : {settings : Parts} {spare : ℕ} (first now : Line) (ss : List (Served settings spare)) → ServedInTurn first now ss → IsTrue first.tells → now.opened ≡ first.opened + length ss
+pub turn-opened : {p : Protocol} {settings : Parts} {spare : ℕ} (first now : Line) (ss : List (Served p settings spare)) → ServedInTurn first now ss → IsTrue first.tells → now.opened ≡ first.opened + length ss
 turn-opened first now [] h t = let e = h.opened t in omega (arith, e)
 turn-opened first now (s ∷ ss) h t =
     let on = turn-opened s.after now ss h.1 (still (session_keeps first s h.0).tells t) in
     let one = session_opened first s h.0 t in
     omega (arith, on, one)
 
-pub turn-others : {settings : Parts} {spare : ℕ} (first now : Line) (ss : List (Served settings spare)) → ServedInTurn first now ss → IsTrue first.tells
+pub turn-others : {p : Protocol} {settings : Parts} {spare : ℕ} (first now : Line) (ss : List (Served p settings spare)) → ServedInTurn first now ss → IsTrue first.tells
     → (k : ℕ) → (k < first.opened ⊎ first.opened + length ss ≤ k) → now.connection k ≡ first.connection k
 turn-others first now [] h t k d = h.waited.connections k
 turn-others first now (s ∷ ss) h t k d =
@@ -60,7 +60,7 @@ turn-others first now (s ∷ ss) h t k d =
     turn-others s.after now ss h.1 (still (session_keeps first s h.0).tells t) k later ∙ session_others first s h.0 t k ne
 
 -- the connection that was opened first is afterwards what its session left
-pub turn-stays : {settings : Parts} {spare : ℕ} (first now : Line) (s : Served settings spare) (ss : List (Served settings spare)) → ServedInTurn first now (s ∷ ss) → IsTrue first.tells
+pub turn-stays : {p : Protocol} {settings : Parts} {spare : ℕ} (first now : Line) (s : Served p settings spare) (ss : List (Served p settings spare)) → ServedInTurn first now (s ∷ ss) → IsTrue first.tells
     → now.connection first.opened ≡ s.after.connection first.opened
 turn-stays first now s ss h t =
     let one = session_opened first s h.0 t in
@@ -70,30 +70,26 @@ turn-stays first now s ss h t =
 abbrev pub SameFrom : ℕ → Line → Line → Type 0
 SameFrom k first now = (j : ℕ) → k ≤ j → now.connection j ≡ first.connection j
 
-pub same_on : {settings : Parts} {spare : ℕ} (whole first : Line) (k : ℕ) (s : Served settings spare) → OpenedNext first s.before → IsTrue first.tells → first.opened ≡ k → SameFrom k whole first → SameFrom (k + 1) whole s.after
+pub same_on : {p : Protocol} {settings : Parts} {spare : ℕ} (whole first : Line) (k : ℕ) (s : Served p settings spare) → OpenedNext first s.before → IsTrue first.tells → first.opened ≡ k → SameFrom k whole first → SameFrom (k + 1) whole s.after
 same_on whole first k s o t at same = λ j le. session_others first s o t j (λ e. omega (arith, e, at, le)) ∙ same j (omega (arith, le))
 
--- an end that the terminal decided is no hang-up
-not_hung_up : (forced : Bool) → end_decided forced ≢ HungUp
-not_hung_up true e = absurd cc
-not_hung_up false e = absurd cc
-
-mute_not_hung_up : (b forced : Bool) → (if b then end_decided forced else LineLost) ≢ HungUp
-mute_not_hung_up true forced e = not_hung_up forced e
-mute_not_hung_up false forced e = absurd cc
+mute_not_hung_up : (b : Bool) (p : Protocol) (session : SessionIn p) → (if b then end_in p session else LineLost) ≢ HungUp
+mute_not_hung_up true p session e = not_hung_up p session e
+mute_not_hung_up false p session e = absurd cc
 
 -- a session that ended because nothing was left was fed all
-all_fed : (settings : Parts) (spare : ℕ) (old new : Line) (heard fed said : List ℕ) (session : Session) (end : SessionEnd) (stop : SessionStop) → IsTrue old.tells → IsTrue old.is_open → SessionStops settings spare old new heard fed said session end stop
+all_fed : (p : Protocol) (settings : Parts) (spare : ℕ) (old new : Line) (heard fed said : List ℕ) (session : SessionIn p) (end : SessionEnd) (stop : SessionStop p) → IsTrue old.tells → IsTrue old.is_open → SessionStops p settings spare old new heard fed said session end stop
     → end ≡ HungUp → fed ≡ (here old).rest
-all_fed settings spare old new heard fed said session end silent t o h e = h.all ∙ sym (h.nothing_left t o)
-all_fed settings spare old new heard fed said session end hear_failed t o h e = let bad : LineLost ≡ HungUp = sym h.end_is ∙ e in absurd cc
-all_fed settings spare old new heard fed said session end (told answer) t o h e = absurd (not_hung_up session.forced (sym h.end_is ∙ e))
-all_fed settings spare old new heard fed said session end (say_failed answer n) t o h e = absurd (mute_not_hung_up (is_end answer) session.forced (sym h.end_is ∙ e))
+all_fed p settings spare old new heard fed said session end (ungreeted n) t o h e = let bad : LineLost ≡ HungUp = sym h.end_is ∙ e in absurd cc
+all_fed p settings spare old new heard fed said session end silent t o h e = h.all ∙ sym (h.nothing_left t o)
+all_fed p settings spare old new heard fed said session end hear_failed t o h e = let bad : LineLost ≡ HungUp = sym h.end_is ∙ e in absurd cc
+all_fed p settings spare old new heard fed said session end (told answer) t o h e = absurd (not_hung_up p session (sym h.end_is ∙ e))
+all_fed p settings spare old new heard fed said session end (say_failed answer n) t o h e = absurd (mute_not_hung_up (is_last p answer) p session (sym h.end_is ∙ e))
 
-at_each : {settings : Parts} {spare : ℕ} (whole first now : Line) (k : ℕ) (ss : List (Served settings spare)) → first.count ≡ whole.count → first.opened ≡ k → SameFrom k whole first → IsTrue first.tells → ServedInTurn first now ss
+at_each : {p : Protocol} {settings : Parts} {spare : ℕ} (whole first now : Line) (k : ℕ) (ss : List (Served p settings spare)) → first.count ≡ whole.count → first.opened ≡ k → SameFrom k whole first → IsTrue first.tells → ServedInTurn first now ss
     → AllFrom (SessionIsAt whole now) k ss
 at_each whole first now k [] count at same t h = tt
-at_each {settings} {spare} whole first now k (s ∷ ss) count at same t h =
+at_each {p} {settings} {spare} whole first now k (s ∷ ss) count at same t h =
     let keeps = session_keeps first s h.0 in
     let one = session_opened first s h.0 t in
     let tells : IsTrue s.before.tells = still (h.0).waited.keeps.tells t in
@@ -112,22 +108,22 @@ at_each {settings} {spare} whole first now k (s ∷ ss) count at same t h =
         stays = stays;
         grew = subst (λ (c : Connection). Grew c (now.connection k) s.ran.heard s.ran.said s.ran.turns) here_is
             (subst (λ (c : Connection). Grew (here s.before) c s.ran.heard s.ran.said s.ran.turns) now_is (s.ran.line.grew tells open_now));
-        all_fed = λ e. all_fed settings spare s.before s.after s.ran.heard s.ran.fed s.ran.said s.ran.session s.end s.ran.stop tells open_now s.ran.stops e ∙ ap (λ (c : Connection). c.rest) here_is;
+        all_fed = λ e. all_fed p settings spare s.before s.after s.ran.heard s.ran.fed s.ran.said s.ran.session s.end s.ran.stop tells open_now s.ran.stops e ∙ ap (λ (c : Connection). c.rest) here_is;
       },
       at_each whole s.after now (k + 1) ss (keeps.count ∙ count) (omega (arith, one, at)) (same_on whole first k s h.0 t at same) (still keeps.tells t) h.1,
     )
 
-pub turn-served : {settings : Parts} {spare : ℕ} (first now : Line) (ss : List (Served settings spare)) → ServedInTurn first now ss → IsTrue first.tells → AllFrom (SessionIsAt first now) first.opened ss
+pub turn-served : {p : Protocol} {settings : Parts} {spare : ℕ} (first now : Line) (ss : List (Served p settings spare)) → ServedInTurn first now ss → IsTrue first.tells → AllFrom (SessionIsAt first now) first.opened ss
 turn-served first now ss h t = at_each first first now first.opened ss refl refl (λ j le. refl) t h
 
-pub turn-shut : {settings : Parts} {spare : ℕ} (first now : Line) (ss : List (Served settings spare)) → ServedInTurn first now ss → IsTrue first.tells → (0 < length ss ⊎ IsFalse first.is_open) → IsFalse now.is_open
+pub turn-shut : {p : Protocol} {settings : Parts} {spare : ℕ} (first now : Line) (ss : List (Served p settings spare)) → ServedInTurn first now ss → IsTrue first.tells → (0 < length ss ⊎ IsFalse first.is_open) → IsFalse now.is_open
 turn-shut first now [] h t d = elim d [ inl some ↦ absurd (omega (arith, some)) | inr f ↦ h.shut t f ]
 turn-shut first now (s ∷ ss) h t d =
     let keeps = session_keeps first s h.0 in
     turn-shut s.after now ss h.1 (still keeps.tells t) (inr (s.closes.shut (still (h.0).waited.keeps.tells t)))
 
 -- no more connections were served than the wire has
-pub turn-within : {settings : Parts} {spare : ℕ} (first now : Line) (ss : List (Served settings spare)) → ServedInTurn first now ss → IsTrue first.tells → (k : ℕ) → first.opened ≤ k → k < first.opened + length ss → k < first.count
+pub turn-within : {p : Protocol} {settings : Parts} {spare : ℕ} (first now : Line) (ss : List (Served p settings spare)) → ServedInTurn first now ss → IsTrue first.tells → (k : ℕ) → first.opened ≤ k → k < first.opened + length ss → k < first.count
 turn-within first now [] h t k from lt = absurd (omega (arith, from, lt))
 turn-within first now (s ∷ ss) h t k from lt =
     let keeps = session_keeps first s h.0 in
@@ -140,7 +136,7 @@ turn-within first now (s ∷ ss) h t k from lt =
       | inr here ↦ omega (arith, here, from, (h.0).within t)
     ]
 
-pub wire_after : {settings : Parts} {spare : ℕ} (first now : Line) (ss : List (Served settings spare)) → ServedInTurn first now ss → WireAfter first now ss
+pub wire_after : {p : Protocol} {settings : Parts} {spare : ℕ} (first now : Line) (ss : List (Served p settings spare)) → ServedInTurn first now ss → WireAfter first now ss
 wire_after first now ss h = record {
   keeps = turn-keeps first now ss h;
   opened = turn-opened first now ss h;
@@ -178,41 +174,43 @@ pub record LineWent (old new : Line) : Type 0 where
 line_then : (a b c : Line) → LineWent a b → LineWent b c → LineWent a c
 line_then a b c h k = record { hear = went_then a.hear b.hear c.hear h.hear k.hear; say = went_then a.say b.say c.say h.say k.say }
 
-stops_went : (settings : Parts) (spare : ℕ) (old new : Line) (heard fed said : List ℕ) (session : Session) (end : SessionEnd) (stop : SessionStop) → SessionStops settings spare old new heard fed said session end stop → LineWent old new
-stops_went settings spare old new heard fed said session end silent h = record { hear = inl h.hear; say = inl h.say }
-stops_went settings spare old new heard fed said session end hear_failed h = record { hear = inr h.hear; say = inl h.say }
-stops_went settings spare old new heard fed said session end (told answer) h = record { hear = inl h.hear; say = inl h.say }
-stops_went settings spare old new heard fed said session end (say_failed answer n) h = record { hear = inl h.hear; say = inr h.say }
+stops_went : (p : Protocol) (settings : Parts) (spare : ℕ) (old new : Line) (heard fed said : List ℕ) (session : SessionIn p) (end : SessionEnd) (stop : SessionStop p) → SessionStops p settings spare old new heard fed said session end stop → LineWent old new
+stops_went p settings spare old new heard fed said session end (ungreeted n) h = record { hear = inl h.hear; say = inr h.say }
+stops_went p settings spare old new heard fed said session end silent h = record { hear = inl h.hear; say = inl h.say }
+stops_went p settings spare old new heard fed said session end hear_failed h = record { hear = inr h.hear; say = inl h.say }
+stops_went p settings spare old new heard fed said session end (told answer) h = record { hear = inl h.hear; say = inl h.say }
+stops_went p settings spare old new heard fed said session end (say_failed answer n) h = record { hear = inl h.hear; say = inr h.say }
 
-stops_lost : (settings : Parts) (spare : ℕ) (old new : Line) (heard fed said : List ℕ) (session : Session) (end : SessionEnd) (stop : SessionStop) → SessionStops settings spare old new heard fed said session end stop
+stops_lost : (p : Protocol) (settings : Parts) (spare : ℕ) (old new : Line) (heard fed said : List ℕ) (session : SessionIn p) (end : SessionEnd) (stop : SessionStop p) → SessionStops p settings spare old new heard fed said session end stop
     → end ≡ LineLost → Rose old.hear new.hear ⊎ Rose old.say new.say
-stops_lost settings spare old new heard fed said session end silent h e = let bad : HungUp ≡ LineLost = sym h.end_is ∙ e in absurd cc
-stops_lost settings spare old new heard fed said session end hear_failed h e = inl h.hear
-stops_lost settings spare old new heard fed said session end (told answer) h e = absurd (not_lost session.forced (sym h.end_is ∙ e))
-stops_lost settings spare old new heard fed said session end (say_failed answer n) h e = inr h.say
+stops_lost p settings spare old new heard fed said session end (ungreeted n) h e = inr h.say
+stops_lost p settings spare old new heard fed said session end silent h e = let bad : HungUp ≡ LineLost = sym h.end_is ∙ e in absurd cc
+stops_lost p settings spare old new heard fed said session end hear_failed h e = inl h.hear
+stops_lost p settings spare old new heard fed said session end (told answer) h e = absurd (not_lost p session (sym h.end_is ∙ e))
+stops_lost p settings spare old new heard fed said session end (say_failed answer n) h e = inr h.say
 
 -- waits change none of them
-went_wait : {settings : Parts} {spare : ℕ} (first : Line) (s : Served settings spare) → OpenedNext first s.before → LineWent first s.before
+went_wait : {p : Protocol} {settings : Parts} {spare : ℕ} (first : Line) (s : Served p settings spare) → OpenedNext first s.before → LineWent first s.before
 went_wait first s o = record { hear = inl o.waited.counts.hear; say = inl o.waited.counts.say }
 
-went_session : {settings : Parts} {spare : ℕ} (s : Served settings spare) → LineWent s.before s.after
-went_session {settings} {spare} s = stops_went settings spare s.before s.after s.ran.heard s.ran.fed s.ran.said s.ran.session s.end s.ran.stop s.ran.stops
+went_session : {p : Protocol} {settings : Parts} {spare : ℕ} (s : Served p settings spare) → LineWent s.before s.after
+went_session {p} {settings} {spare} s = stops_went p settings spare s.before s.after s.ran.heard s.ran.fed s.ran.said s.ran.session s.end s.ran.stop s.ran.stops
 
-went_turn : {settings : Parts} {spare : ℕ} (first now : Line) (ss : List (Served settings spare)) → ServedInTurn first now ss → LineWent first now
+went_turn : {p : Protocol} {settings : Parts} {spare : ℕ} (first now : Line) (ss : List (Served p settings spare)) → ServedInTurn first now ss → LineWent first now
 went_turn first now [] h = record { hear = inl h.waited.counts.hear; say = inl h.waited.counts.say }
 went_turn first now (s ∷ ss) h = line_then first s.after now (line_then first s.before s.after (went_wait first s h.0) (went_session s)) (went_turn s.after now ss h.1)
 
-lost_each : {settings : Parts} {spare : ℕ} (whole first now : Line) (ss : List (Served settings spare)) → LineWent whole first → ServedInTurn first now ss → AllByRecursion (LostRaises whole now) ss
+lost_each : {p : Protocol} {settings : Parts} {spare : ℕ} (whole first now : Line) (ss : List (Served p settings spare)) → LineWent whole first → ServedInTurn first now ss → AllByRecursion (LostRaises whole now) ss
 lost_each whole first now [] w h = tt
-lost_each {settings} {spare} whole first now (s ∷ ss) w h =
+lost_each {p} {settings} {spare} whole first now (s ∷ ss) w h =
     let before = line_then whole first s.before w (went_wait first s h.0) in
     let behind = went_turn s.after now ss h.1 in (
-      λ e. elim (stops_lost settings spare s.before s.after s.ran.heard s.ran.fed s.ran.said s.ran.session s.end s.ran.stop s.ran.stops e) [
+      λ e. elim (stops_lost p settings spare s.before s.after s.ran.heard s.ran.fed s.ran.said s.ran.session s.end s.ran.stop s.ran.stops e) [
         | inl hear ↦ inl (rose_within whole.hear s.before.hear s.after.hear now.hear before.hear hear behind.hear)
         | inr say ↦ inr (rose_within whole.say s.before.say s.after.say now.say before.say say behind.say)
       ],
       lost_each whole s.after now ss (line_then whole s.before s.after before (went_session s)) h.1,
     )
 
-pub turn-lost : {settings : Parts} {spare : ℕ} (first now : Line) (ss : List (Served settings spare)) → ServedInTurn first now ss → AllByRecursion (LostRaises first now) ss
+pub turn-lost : {p : Protocol} {settings : Parts} {spare : ℕ} (first now : Line) (ss : List (Served p settings spare)) → ServedInTurn first now ss → AllByRecursion (LostRaises first now) ss
 turn-lost first now ss h = lost_each first first now ss (record { hear = inl refl; say = inl refl }) h

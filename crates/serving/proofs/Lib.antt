@@ -5,7 +5,9 @@ pub mod Decisions
 pub mod FewBits
 pub mod InTurn
 pub mod LeftPool
+pub mod Protocols
 pub mod Servings
+pub mod SnppSessions
 pub mod Steps
 pub mod Stops
 pub mod Trials

@@ -32,7 +32,7 @@ use Rattle.serving.specs.Answering.{AnsweredBroken, AnsweredInput, AnsweredUnpri
 use Rattle.serving.specs.Answers.{answer_line, answer_lines}
 use Rattle.serving.specs.Leaves.{HasTried, HearingLeaves, LeavesAccepted, WasLast}
 use Rattle.listening.specs.Noise.{ListensThrough}
-use Rattle.serving.specs.Sessions.{SessionOf}
+use Rattle.serving.specs.TapSessions.{SessionOf}
 use Rattle.serving.specs.Trying.{HearsPages, TriedAnswers, TriedFront, TriedInput, TriedSession, trial_lines}
 use Rattle.endings.specs.Wrote.{Wrote, WroteFront}
 use Rattle.listening.proofs.Listens.{Puts-from_wrote, Wrote-then, WroteFront-longer, WroteFront-then}

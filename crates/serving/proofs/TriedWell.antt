@@ -13,7 +13,7 @@ use Rattle.wires.specs.Written.{Written}
 use Rattle.endings.specs.declared.statuses.Status.{Status}
 use Rattle.endings.specs.declared.statuses.Status.TheVariants.{Done, FileFault, InputFault, OutFault}
 use Rattle.serving.specs.Answers.{answer_lines}
-use Rattle.serving.specs.Sessions.{SessionOf}
+use Rattle.serving.specs.TapSessions.{SessionOf}
 use Rattle.serving.specs.Trying.{TrialOutWell, TriedSession, Tries, trial_lines}
 use Rattle.listening.proofs.Listens.{length-front}
 use Rattle.air.proofs.OneAir.{one_air}

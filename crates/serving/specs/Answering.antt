@@ -12,7 +12,7 @@ use Rattle.serving.specs.declared.answering.Course.TheVariants.{GoesOn, Ended}
 use Rattle.serving.specs.declared.answering.InputEnd.{InputEnd}
 use Rattle.serving.specs.declared.answering.InputEnd.TheVariants.{Answered, Broken, Unprinted}
 use Rattle.serving.specs.Answers.{answer_lines}
-use Rattle.serving.specs.Sessions.{SessionOf, TerminalStandsFor, has_end_answer}
+use Rattle.serving.specs.TapSessions.{SessionOf, TerminalStandsFor, has_end_answer}
 use Rattle.wires.specs.Fronts.{IsFront}
 use Rattle.endings.specs.Wrote.{Wrote, WroteFront}
 

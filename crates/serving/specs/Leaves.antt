@@ -10,9 +10,10 @@ use Rattle.wires.specs.Left.{Left}
 use Rattle.wires.specs.Written.{Written}
 use Rattle.endings.specs.declared.statuses.Status.{Status}
 use Rattle.endings.specs.declared.statuses.Status.TheVariants.{Done, FileFault, InputFault, OutFault, WireFault}
+use Rattle.serving.specs.Protocols.{Protocol, StateIn}
 use Rattle.serving.specs.Served.{Served}
 use Rattle.serving.specs.Serving.{Around, HasServed, SoFar}
-use Rattle.serving.specs.Sessions.{TerminalStandsFor}
+use Rattle.serving.specs.TapSessions.{TerminalStandsFor}
 use Rattle.serving.specs.Trying.{Tries}
 
 -- This was the terminal's last session: the terminal stands for the bytes that were fed in it, so that its report is the session's.
@@ -21,36 +22,36 @@ pub record WasLast (settings : Parts) (spare : ℕ) (session : Session) (desk : 
   pub left : ℕ
   pub stands : TerminalStandsFor settings spare desk fed session left
 
--- the terminal after some sessions: that of the last one, and where there was none the terminal that was there before
-abbrev pub desk_after : {settings : Parts} {spare : ℕ} → TerminalState → List (Served settings spare) → TerminalState
-desk_after first [] = first
-desk_after first (s ∷ ss) = desk_after s.desk ss
+-- the entry line after some sessions: that of the last one, and where there was none the one that was there before
+abbrev pub state_after : {p : Protocol} {settings : Parts} {spare : ℕ} → StateIn p → List (Served p settings spare) → StateIn p
+state_after first [] = first
+state_after first (s ∷ ss) = state_after s.state ss
 
--- No page waits, and the last of these sessions was the terminal's last one.
-pub record LeavesNoPage {settings : Parts} {spare : ℕ} (first : TerminalState) (sessions : List (Served settings spare)) (pool : Pool) (desk : TerminalState) : Type 0 where
+-- No page waits, and the last of these sessions was the entry line's last one.
+pub record LeavesNoPage {p : Protocol} {settings : Parts} {spare : ℕ} (first : StateIn p) (sessions : List (Served p settings spare)) (pool : Pool) (state : StateIn p) : Type 0 where
   pub no_page : pool.live ≡ []
-  pub last : desk ≡ desk_after first sessions
+  pub last : state ≡ state_after first sessions
 
 -- what serving leaves, by how it ended. Where an append failed, pages of the session may wait whose transmission failed.
-abbrev pub ServingLeaves : (settings : Parts) (spare : ℕ) (old new : Around) (address name : List ℕ) (most : ℕ) (first : TerminalState) (pool : Pool) (desk : TerminalState)
-    (status : Status) → HasServed settings spare old new address name most status → Type 0
-ServingLeaves settings spare old new address name most first pool desk Done h = LeavesNoPage first h.sessions pool desk
-ServingLeaves settings spare old new address name most first pool desk WireFault h = LeavesNoPage first h.sessions pool desk
-ServingLeaves settings spare old new address name most first pool desk FileFault (inl h) = (pool.live ≡ []) × (desk ≡ first)
-ServingLeaves settings spare old new address name most first pool desk FileFault (inr h) = desk ≡ h.unsent.desk
-ServingLeaves settings spare old new address name most first pool desk OutFault h = LeavesNoPage first (h.sessions ++ h.unreported ∷ []) pool desk
-ServingLeaves settings spare old new address name most first pool desk other h = ⊥
+abbrev pub ServingLeaves : (p : Protocol) (settings : Parts) (spare : ℕ) (old new : Around) (address name : List ℕ) (most : ℕ) (first : StateIn p) (pool : Pool) (state : StateIn p)
+    (status : Status) → HasServed p settings spare old new address name most status → Type 0
+ServingLeaves p settings spare old new address name most first pool state Done h = LeavesNoPage first h.sessions pool state
+ServingLeaves p settings spare old new address name most first pool state WireFault h = LeavesNoPage first h.sessions pool state
+ServingLeaves p settings spare old new address name most first pool state FileFault (inl h) = (pool.live ≡ []) × (state ≡ first)
+ServingLeaves p settings spare old new address name most first pool state FileFault (inr h) = state ≡ h.unsent.state
+ServingLeaves p settings spare old new address name most first pool state OutFault h = LeavesNoPage first (h.sessions ++ h.unreported ∷ []) pool state
+ServingLeaves p settings spare old new address name most first pool state other h = ⊥
 
 -- how serving ended, and what it left
-pub record Serves (settings : Parts) (spare : ℕ) (old new : Around) (address name : List ℕ) (most : ℕ) (first : TerminalState) (pool : Pool) (desk : TerminalState) (status : Status) : Type 0 where
-  pub served : HasServed settings spare old new address name most status
-  pub leaves : ServingLeaves settings spare old new address name most first pool desk status served
+pub record Serves (p : Protocol) (settings : Parts) (spare : ℕ) (old new : Around) (address name : List ℕ) (most : ℕ) (first : StateIn p) (pool : Pool) (state : StateIn p) (status : Status) : Type 0 where
+  pub served : HasServed p settings spare old new address name most status
+  pub leaves : ServingLeaves p settings spare old new address name most first pool state status served
 
 -- One session more is served, or the serving ended.
-abbrev pub Further : Parts → ℕ → Around → Around → List ℕ → List ℕ → ℕ → TerminalState → Pool → TerminalState → ℕ → Option Status → Type 0
-Further settings spare old now address name most first pool desk number None =
-    (sessions : List (Served settings spare)) × SoFar old now address name most pool sessions × (desk ≡ desk_after first sessions) × (length sessions ≡ number)
-Further settings spare old now address name most first pool desk number (Some status) = Serves settings spare old now address name most first pool desk status
+abbrev pub Further : (p : Protocol) → Parts → ℕ → Around → Around → List ℕ → List ℕ → ℕ → StateIn p → Pool → StateIn p → ℕ → Option Status → Type 0
+Further p settings spare old now address name most first pool state number None =
+    (sessions : List (Served p settings spare)) × SoFar old now address name most pool sessions × (state ≡ state_after first sessions) × (length sessions ≡ number)
+Further p settings spare old now address name most first pool state number (Some status) = Serves p settings spare old now address name most first pool state status
 
 -- No page waits: all were sent. The session was the terminal's last one.
 pub record LeavesSent (settings : Parts) (spare : ℕ) (session : Session) (pool : Pool) (desk : TerminalState) : Type 0 where

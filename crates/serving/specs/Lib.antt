@@ -2,9 +2,12 @@ pub mod Answering
 pub mod Answers
 pub mod InTurn
 pub mod Leaves
+pub mod Protocols
 pub mod ReportLine
 pub mod Served
 pub mod Serving
 pub mod Sessions
+pub mod SnppSessions
 pub mod StationState
+pub mod TapSessions
 pub mod Trying

@@ -1,6 +1,7 @@
 -- The report line of a session: docs/profile.md, "report".
 use Rattle.std.specs.Prelude.{ℕ, List, [], ◌∷◌, ◌++◌, codes, decimal}
 use Rattle.tap_terminal.specs.declared.report.Report.{Report}
+use Rattle.snpp_entry.specs.declared.report.SnppReport.{SnppReport}
 use Rattle.serving.specs.declared.session.SessionEnd.{SessionEnd}
 use Rattle.serving.specs.declared.session.SessionEnd.TheVariants.{Ended, Forced, HungUp, LineLost}
 
@@ -29,3 +30,8 @@ counted_all r =
 -- the session's number, how it ended, the numbers of its report, LF
 unfoldable pub report_line : ℕ → SessionEnd → Report → List ℕ
 report_line number end r = codes "session " ++ decimal number ++ codes " " ++ end_word end ++ counted_all r ++ 10 ∷ []
+
+-- the same of an SNPP session
+unfoldable pub snpp_report_line : ℕ → SessionEnd → SnppReport → List ℕ
+snpp_report_line number end r =
+    codes "snpp " ++ decimal number ++ codes " " ++ end_word end ++ counted (codes "pages") r.pages ++ counted (codes "refused") r.refused ++ 10 ∷ []

@@ -1,45 +1,43 @@
 -- The sessions that a station served on the connections of a wire, one after another, and what came of them.
-use Rattle.std.specs.Prelude.{◌≡◌, ◌≢◌, ℕ, ◌+◌, ◌*◌, ◌<◌, ◌≤◌, ◌⊎◌, Bool, List, [], ◌∷◌, ◌++◌, length, flat_map, IsTrue, IsFalse, if◌then◌else◌}
+use Rattle.std.specs.Prelude.{◌≡◌, ◌≢◌, ℕ, ◌+◌, ◌*◌, ◌<◌, ◌≤◌, ◌⊎◌, Bool, List, [], ◌∷◌, ◌++◌, length, flat_map, IsTrue, IsFalse}
 use Rattle.air.specs.Air.{IsAir}
 use Rattle.bits.specs.Bits.{bytes_bits}
 use Rattle.page_pool.specs.Pool.{Pool}
 use Rattle.subscribers.specs.Parts.{Parts}
-use Rattle.tap_terminal.specs.State.{TerminalState}
-use Rattle.tap_terminal.specs.Replies.{replies}
 use Rattle.wires.specs.Files.{Files, SameAt, longest_name}
 use Rattle.wires.specs.Line.{IsBlank, Keeps, KeepsConnections, KeepsLineAndHang, Line}
 use Rattle.wires.specs.Stacked.{are_bytes}
 use Rattle.wires.specs.Written.{Written}
 use Rattle.serving.specs.declared.session.SessionEnd.{SessionEnd}
-use Rattle.serving.specs.declared.session.SessionEnd.TheVariants.{HungUp}
-use Rattle.serving.specs.ReportLine.{longest_line, report_line}
-use Rattle.serving.specs.Sessions.{Closes, HasRoomForReplies, Ran, SessionOf, end_decided, has_end_answer}
+use Rattle.serving.specs.Protocols.{IsSessionIn, Protocol, StateIn, ends_as, line_in, queued_in, spoken}
+use Rattle.serving.specs.ReportLine.{longest_line}
+use Rattle.serving.specs.Sessions.{Closes, HasRoomForReplies, Ran}
 
 -- A session that was served, with the wire before and after it, and the bits of the transmission of its pages. The pool was empty
 -- before it.
-pub record Served (settings : Parts) (spare : ℕ) : Type 0 where
+pub record Served (p : Protocol) (settings : Parts) (spare : ℕ) : Type 0 where
   pub before : Line
   pub after : Line
   pub empty : Pool
   pub pool : Pool
-  pub desk : TerminalState
+  pub state : StateIn p
   pub end : SessionEnd
   pub bits : List Bool
   pub no_page : empty.live ≡ []
-  pub ran : Ran settings spare before after empty pool desk end
-  pub closes : Closes settings spare before after
-  pub is_air : IsAir ran.session.pages bits
+  pub ran : Ran p settings spare before after empty pool state end
+  pub closes : Closes p settings spare before after
+  pub is_air : IsAir (queued_in p ran.session) bits
 
 -- the bits of the transmissions, one after another
-abbrev pub airs : {settings : Parts} {spare : ℕ} → List (Served settings spare) → List Bool
+abbrev pub airs : {p : Protocol} {settings : Parts} {spare : ℕ} → List (Served p settings spare) → List Bool
 airs sessions = flat_map (λ s. s.bits) sessions
 
 -- the report line of a session
-abbrev pub line_for : {settings : Parts} {spare : ℕ} → ℕ → Served settings spare → List ℕ
-line_for number s = report_line number s.end s.ran.session.report
+abbrev pub line_for : {p : Protocol} {settings : Parts} {spare : ℕ} → ℕ → Served p settings spare → List ℕ
+line_for {p} number s = line_in p number s.end s.ran.session
 
 -- the report lines, numbered from this number on
-abbrev pub lines : {settings : Parts} {spare : ℕ} → ℕ → List (Served settings spare) → List ℕ
+abbrev pub lines : {p : Protocol} {settings : Parts} {spare : ℕ} → ℕ → List (Served p settings spare) → List ℕ
 lines number [] = []
 lines number (s ∷ ss) = line_for number s ++ lines (number + 1) ss
 
@@ -71,7 +69,7 @@ pub record OpenedNone (old new : Line) : Type 0 where
 
 -- The sessions were served on one wire, one after another, each on the next of its connections: the first where the wire was at first,
 -- each further one where the one before it left the wire. After the last one no further connection was opened.
-abbrev pub ServedInTurn : {settings : Parts} {spare : ℕ} → Line → Line → List (Served settings spare) → Type 0
+abbrev pub ServedInTurn : {p : Protocol} {settings : Parts} {spare : ℕ} → Line → Line → List (Served p settings spare) → Type 0
 ServedInTurn first now [] = OpenedNone first now
 ServedInTurn first now (s ∷ ss) = OpenedNext first s.before × ServedInTurn s.after now ss
 
@@ -97,21 +95,21 @@ pub record OutAfter (old now : Written ℕ) (bytes : List ℕ) : Type 0 where
   pub room : IsTrue old.tells → now.room + length bytes ≡ old.room
   pub lent : now.lent ≡ old.lent
 
--- The wire is steady, and each of its next connections, so many or all that are left, has room for the replies to all that is to be heard
--- there.
-pub record FitWire (settings : Parts) (spare : ℕ) (wire : Line) (most : ℕ) : Type 0 where
+-- The wire is steady, and each of its next connections, so many or all that are left, has room for the greeting and for the replies to all
+-- that is to be heard there.
+pub record FitWire (p : Protocol) (settings : Parts) (spare : ℕ) (wire : Line) (most : ℕ) : Type 0 where
   pub tells : IsTrue wire.tells
   pub steady : IsTrue wire.steady
-  pub fits : (k : ℕ) → wire.opened ≤ k → k < wire.opened + most → k < wire.count → HasRoomForReplies settings spare (wire.connection k)
+  pub fits : (k : ℕ) → wire.opened ≤ k → k < wire.opened + most → k < wire.count → HasRoomForReplies p settings spare (wire.connection k)
 
 -- The shelf is steady, the file is there or may be added, and a fresh one has room for the transmissions of whatever sessions may be
 -- served on as many connections as this.
-pub record FitShelf (settings : Parts) (spare : ℕ) (wire : Line) (shelf : Files) (name : List ℕ) (most : ℕ) : Type 0 where
+pub record FitShelf (p : Protocol) (settings : Parts) (spare : ℕ) (wire : Line) (shelf : Files) (name : List ℕ) (most : ℕ) : Type 0 where
   pub tells : IsTrue shelf.tells
   pub steady : IsTrue shelf.steady
   pub proper : IsTrue (shelf.there name) ⊎ (IsTrue shelf.further × (length name ≤ longest_name))
   pub told : IsTrue wire.tells
-  pub fits : (now : Line) (sessions : List (Served settings spare)) → ServedInTurn wire now sessions → length sessions ≤ most → length (airs sessions) ≤ 8 * shelf.fresh_room
+  pub fits : (now : Line) (sessions : List (Served p settings spare)) → ServedInTurn wire now sessions → length sessions ≤ most → length (airs sessions) ≤ 8 * shelf.fresh_room
 
 -- The output is steady, and has room for so many lines.
 pub record FitOut (out : Written ℕ) (most : ℕ) : Type 0 where
@@ -119,15 +117,15 @@ pub record FitOut (out : Written ℕ) (most : ℕ) : Type 0 where
   pub steady : IsTrue out.steady
   pub fits : most * longest_line ≤ out.room
 
--- the next connections, so many, have room for the replies to all that is to be heard there
-abbrev pub NextFit : Parts → ℕ → Line → ℕ → Type 0
-NextFit settings spare wire n = (k : ℕ) → wire.opened ≤ k → k < wire.opened + n → HasRoomForReplies settings spare (wire.connection k)
+-- the next connections, so many, have room for the greeting and for the replies to all that is to be heard there
+abbrev pub NextFit : Protocol → Parts → ℕ → Line → ℕ → Type 0
+NextFit p settings spare wire n = (k : ℕ) → wire.opened ≤ k → k < wire.opened + n → HasRoomForReplies p settings spare (wire.connection k)
 
--- The session on the connection of this number is that of all that was to be heard there, and all its replies were said.
-pub record IsWhole {settings : Parts} {spare : ℕ} (first now : Line) (k : ℕ) (s : Served settings spare) : Type 0 where
-  pub session_is : SessionOf settings spare (first.connection k).rest s.ran.session
-  pub said : (now.connection k).said ≡ (first.connection k).said ++ replies s.ran.session.answers
-  pub end_is : s.end ≡ (if has_end_answer s.ran.session.answers then end_decided s.ran.session.forced else HungUp)
+-- The session on the connection of this number is that of all that was to be heard there, and the greeting and all its replies were said.
+pub record IsWhole {p : Protocol} {settings : Parts} {spare : ℕ} (first now : Line) (k : ℕ) (s : Served p settings spare) : Type 0 where
+  pub session_is : IsSessionIn p settings spare (first.connection k).rest s.ran.session
+  pub said : (now.connection k).said ≡ (first.connection k).said ++ spoken p s.ran.session
+  pub end_is : s.end ≡ ends_as p s.ran.session
 
 -- No hear, say and hang-up failed, and the wire is steady.
 pub record UsedWell (old new : Line) : Type 0 where
@@ -136,7 +134,7 @@ pub record UsedWell (old new : Line) : Type 0 where
 
 -- Each session whose connection is fit, as are those before it, is whole, and up to its end no hear, say and hang-up failed. Where the
 -- connections of all sessions are fit, none failed.
-pub record ServedWhileFit {settings : Parts} {spare : ℕ} (first now : Line) (sessions : List (Served settings spare)) : Type 0 where
-  pub each : (good rest : List (Served settings spare)) (s : Served settings spare) → sessions ≡ good ++ s ∷ rest → NextFit settings spare first (length good + 1)
+pub record ServedWhileFit {p : Protocol} {settings : Parts} {spare : ℕ} (first now : Line) (sessions : List (Served p settings spare)) : Type 0 where
+  pub each : (good rest : List (Served p settings spare)) (s : Served p settings spare) → sessions ≡ good ++ s ∷ rest → NextFit p settings spare first (length good + 1)
       → IsWhole first now (first.opened + length good) s × UsedWell first s.after
-  pub all : NextFit settings spare first (length sessions) → UsedWell first now
+  pub all : NextFit p settings spare first (length sessions) → UsedWell first now

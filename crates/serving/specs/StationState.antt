@@ -24,7 +24,6 @@ station_state_code =
 abbrev pub station_state_of : Inside → StationState
 station_state_of s = record { settings = s.settings; desk = s.terminal; pool = s.pool }
 
--- The terminal has the password of the settings, and the pool their cells: those in use and the spare ones add up to as many.
+-- The pool has the cells of the settings: those in use and the spare ones add up to as many.
 pub record IsReady (s : Inside) : Type 0 where
-  pub password : s.terminal.password ≡ s.settings.password
   pub cells_are : cells s.pool ≡ s.settings.cells

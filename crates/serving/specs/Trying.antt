@@ -14,7 +14,7 @@ use Rattle.serving.specs.Answering.{AnsweredBroken, AnsweredUnprinted}
 use Rattle.serving.specs.Answers.{answer_lines}
 use Rattle.listening.specs.Listening.{FailedAfter}
 use Rattle.listening.specs.Noise.{ListensThrough}
-use Rattle.serving.specs.Sessions.{SessionOf}
+use Rattle.serving.specs.TapSessions.{SessionOf}
 use Rattle.endings.specs.Wrote.{FitFor, StaysWell, Wrote, WroteFront}
 
 -- The session of an input, which was read up to its End or to its end, and the transmission of the pages that it accepted.

@@ -7,6 +7,7 @@ ghost use Rattle.serving.specs.Answers.{answer_line as answer_line_of, reason_li
 ghost use Rattle.wires.specs.Left.{Left};
 ghost use Rattle.wires.specs.Written.{Written};
 
+use crate::entry::EntryLine;
 use crate::session::Station;
 use entry_line::characters::LAST_CHARACTER;
 use tap_terminal::{Answer, Reason};
@@ -45,7 +46,7 @@ impl Station {
         ensures answers { AnswersInput self.old.settings self.old.pool.spare (I.state input.old) (I.state input.new) self.old.pool self.new.pool self.new.desk (O.state out.old) (O.state out.new) result }
         ensures cells_stay { cells self.new.pool ≡ cells self.old.pool }
     {
-        self.terminal.begin();
+        self.terminal.start(&self.settings);
         let mut buffer = [0; READ_AT_ONCE];
         for _ in 0..LAST_CHARACTER {
             match input.take(&mut buffer) {

@@ -1,5 +1,7 @@
 //! The station: sessions of the entry line over connections, the transmissions of the pages that they accept, and trials.
 //!
+//! - `entry`: the entry lines, as a connection sees them.
+//! - `talking`: a session on the open connection.
 //! - `session`: the station, and one session of it.
 //! - `serving`: the connections of the station, one after another.
 //! - `reporting`: the report line of a session.
@@ -8,6 +10,7 @@
 #![tactic(auto)]
 
 mod answering;
+mod entry;
 #[cfg(test)]
 mod report_tests;
 mod reporting;
@@ -17,6 +20,9 @@ mod serving_tests;
 pub mod session;
 #[cfg(test)]
 mod session_tests;
+#[cfg(test)]
+mod snpp_tests;
+mod talking;
 pub mod trial;
 #[cfg(test)]
 mod trial_tests;

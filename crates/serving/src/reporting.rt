@@ -2,12 +2,13 @@
 
 ghost use Rattle.std.specs.Prelude.{◌≡◌, ◌+◌, ◌≤◌, ◌∷◌, [], ◌++◌, decimal, length};
 ghost use Rattle.arrayvec.specs.ArrayVec.{array_vec_len};
-ghost use Rattle.serving.specs.ReportLine.{counted, counted_all, end_word, longest_line, report_line};
+ghost use Rattle.serving.specs.ReportLine.{counted, counted_all, end_word, longest_line, report_line, snpp_report_line};
 ghost use Rattle.wires.specs.Written.{Puts};
 
 use crate::session::SessionEnd;
 use arrayvec::ArrayVec;
 use endings::lines::{DIGITS, push, push_number};
+use snpp_entry::SnppReport;
 use tap_terminal::Report;
 use wires::Failed;
 use wires::sink::Sink;
@@ -28,6 +29,37 @@ pub fn put_report<O: Sink>(
 {
     let line = written(number, end, report);
     out.put(&line)
+}
+
+/// Puts the report line of an SNPP session as one piece of at most 200 bytes: the number of the session, how it ended, how many pages were
+/// queued, and how many lines were refused. `Failed` where the sink fails.
+pub fn put_snpp_report<O: Sink>(
+    number: u32,
+    end: SessionEnd,
+    report: SnppReport,
+    out: &mut O,
+) -> Result<(), Failed>
+    ensures puts { Puts (O.state out.old) (O.state out.new) (snpp_report_line number end report) result }
+    ensures few { length (snpp_report_line number end report) ≤ longest_line }
+{
+    let line = snpp_written(number, end, report);
+    out.put(&line)
+}
+
+/// The line of an SNPP session.
+fn snpp_written(number: u32, end: SessionEnd, report: SnppReport) -> ArrayVec<u8, LONGEST_LINE>
+    ensures line { result.items ≡ snpp_report_line number end report }
+    ensures few { array_vec_len result ≤ LONGEST_LINE }
+{
+    let mut line = ArrayVec::new();
+    push(b"snpp ", &mut line);
+    push_number(number, &mut line);
+    push(b" ", &mut line);
+    push(word(end), &mut line);
+    push_count(b" pages ", report.pages, &mut line);
+    push_count(b" refused ", report.refused, &mut line);
+    push(b"\n", &mut line);
+    line
 }
 
 /// The line.

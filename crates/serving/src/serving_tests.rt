@@ -162,7 +162,7 @@ const CASES: [Case; 12] = [
 ];
 
 /// So many bytes of the transmission of `HELLO` to capcode 8, and of the same once more.
-fn airs(alloc: Global, size: usize) -> Result<Vec<u8>, AllocError> {
+pub(crate) fn airs(alloc: Global, size: usize) -> Result<Vec<u8>, AllocError> {
     let mut air = Vec::new(alloc);
     for _ in 0..2 {
         for _ in 0..72 {

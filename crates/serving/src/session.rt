@@ -1,32 +1,28 @@
-//! The station, and one session of it.
+//! The station, and one session of it on the open connection, of either entry line.
 //!
-//! How it is built. A session begins the terminal anew. `talk` hears up to 4,096 bytes at a time, `take_all` goes through what was
-//! heard, and `take` feeds one byte and says its reply. So each reply is said by one call before anything further is heard. The three
-//! functions answer how the session ends, where it does.
+//! How it is built. A session is `talking::session_on`, with the station's terminal for TAP, and with an `Snpp` of its own for SNPP.
 //!
 //! What to mind. A contract sees a station as its settings, its terminal and its pool (`specs/StationState.antt`). What a session comes to
-//! is the record `Ran` of `specs/Sessions.antt`. The terminal ends each session by its millionth character, so the loop of `talk` never
-//! comes to its end.
+//! is the record `Ran` of `specs/Sessions.antt`.
 
-ghost use Rattle.std.specs.Prelude.{◌≡◌, ℕ, ◌≤◌, ◌∷◌, [], List, length, IsTrue, IsFalse, IfOk, Some, Option};
-ghost use Rattle.page_pool.specs.Pool.{Pool as Waiting, cells};
-ghost use Rattle.serving.specs.Sessions.{Closes, end_decided, GoesOn, Ran, TerminalStandsFor, SessionUnderWay};
-ghost use Rattle.tap_terminal.specs.State.{Stands, unheard};
+ghost use Rattle.std.specs.Prelude.{◌≡◌, ℕ, [], List, length, IfOk};
+ghost use Rattle.page_pool.specs.Pool.{cells};
+ghost use Rattle.serving.specs.Protocols.{snpp, tap};
+ghost use Rattle.serving.specs.Sessions.{Closes, Ran};
+ghost use Rattle.serving.specs.TapSessions.{TerminalStandsFor};
+ghost use Rattle.snpp_entry.specs.State.{SnppState};
 ghost use Rattle.tap_terminal.specs.Session.{Session};
-ghost use Rattle.subscribers.specs.Directory.{Directory};
-ghost use Rattle.wires.specs.Line.{Line};
+ghost use Rattle.tap_terminal.specs.State.{unheard};
 
-use entry_line::characters::LAST_CHARACTER;
+use crate::talking::session_on;
 use page_pool::Pool;
+use snpp_entry::Snpp;
 use std::alloc::Global;
 use std::marker::Model;
 use subscribers::Settings;
-use tap_terminal::{Answer, Report, Terminal, reply};
+use tap_terminal::{Report, Terminal};
+use wires::Memory;
 use wires::wire::Wire;
-use wires::{Failed, Memory};
-
-/// So many bytes are heard at a time.
-const HEARD_AT_ONCE: usize = 4096;
 
 /// How a session ended.
 #[derive(Clone, Copy, Debug, PartialEq, Eq)]
@@ -109,88 +105,29 @@ impl Station {
     /// connection open that has room for the replies to all that is to be heard there. A `hang_up` that fails changes no answer.
     pub fn session<W: Wire>(&mut self, wire: &mut W) -> SessionEnd
         ensures settings { self.new.settings ≡ self.old.settings }
-        ensures ran { Ran self.old.settings self.old.pool.spare (W.state wire.old) (W.state wire.new) self.old.pool self.new.pool self.new.desk result }
-        ensures closes { Closes self.old.settings self.old.pool.spare (W.state wire.old) (W.state wire.new) }
+        ensures ran { Ran tap self.old.settings self.old.pool.spare (W.state wire.old) (W.state wire.new) self.old.pool self.new.pool self.new.desk result }
+        ensures closes { Closes tap self.old.settings self.old.pool.spare (W.state wire.old) (W.state wire.new) }
         ensures cells_are { cells self.new.pool ≡ self.old.settings.cells }
     {
-        self.terminal.begin();
-        let end = self.talk(wire);
-        let _ = wire.hang_up();
-        end
+        session_on(&mut self.terminal, &self.settings, &mut self.pool, wire)
     }
 
-    /// Hears and answers, until the session ends.
-    fn talk<W: Wire>(&mut self, wire: &mut W) -> SessionEnd
+    /// Serves the open connection by the SNPP entry line: says the greeting, hears up to 4,096 bytes at a time, and says each reply by one
+    /// call before it hears again. It hangs up at the end. The pages that were queued are in the pool however the session ends, and no call
+    /// takes memory. `report` stays that of the last TAP session.
+    ///
+    /// Ended comes exactly at Bye, and Forced exactly at TooLong, both also where the reply couldn't be said. HungUp comes exactly where
+    /// what was to be heard ended before these and no `hear` and no `say` failed. LineLost comes exactly where one of these failed and none
+    /// of these replies had been decided, and never over a steady wire with a connection open that has room for the greeting and the
+    /// replies to all that is to be heard there. Where the greeting couldn't be said, nothing was heard. A `hang_up` that fails changes no
+    /// answer.
+    pub fn snpp_session<W: Wire>(&mut self, wire: &mut W) -> SessionEnd
         ensures settings { self.new.settings ≡ self.old.settings }
-        ensures ran { (spare : ℕ) (first : Line) (before : Waiting)
-            → SessionUnderWay self.old.settings spare first (W.state wire.old) before self.old.pool self.old.desk [] []
-            → GoesOn self.new.settings spare first (W.state wire.new) before self.new.pool self.new.desk [] [] (Some result) }
-        ensures cells_stay { cells self.new.pool ≡ cells self.old.pool }
+        ensures terminal { self.new.desk ≡ self.old.desk }
+        ensures ran { (state : SnppState) × Ran snpp self.old.settings self.old.pool.spare (W.state wire.old) (W.state wire.new) self.old.pool self.new.pool state result }
+        ensures closes { Closes snpp self.old.settings self.old.pool.spare (W.state wire.old) (W.state wire.new) }
+        ensures cells_are { cells self.new.pool ≡ self.old.settings.cells }
     {
-        let mut buffer = [0; HEARD_AT_ONCE];
-        for _ in 0..LAST_CHARACTER {
-            match wire.hear(&mut buffer) {
-                Ok(0) => return SessionEnd::HungUp,
-                Ok(n) => {
-                    if let Some(end) = self.take_all(&buffer[..n], wire) {
-                        return end;
-                    }
-                }
-                Err(Failed) => return SessionEnd::LineLost,
-            }
-        }
-        SessionEnd::Forced
-    }
-
-    /// Feeds what was heard, byte by byte.
-    fn take_all<W: Wire>(&mut self, bytes: &[u8], wire: &mut W) -> Option<SessionEnd>
-        ensures settings { self.new.settings ≡ self.old.settings }
-        ensures on { (spare : ℕ) (first : Line) (before : Waiting) (heard : List ℕ)
-            → SessionUnderWay self.old.settings spare first (W.state wire.old) before self.old.pool self.old.desk heard bytes.now
-            → GoesOn self.new.settings spare first (W.state wire.new) before self.new.pool self.new.desk heard [] result }
-        ensures cells_stay { cells self.new.pool ≡ cells self.old.pool }
-    {
-        for byte in bytes {
-            if let Some(end) = self.take(*byte, wire) {
-                return Some(end);
-            }
-        }
-        None
-    }
-
-    /// Feeds a byte that was heard, and says its reply.
-    fn take<W: Wire>(&mut self, byte: u8, wire: &mut W) -> Option<SessionEnd>
-        ensures settings { self.new.settings ≡ self.old.settings }
-        ensures on { (spare : ℕ) (first : Line) (before : Waiting) (heard ahead : List ℕ)
-            → SessionUnderWay self.old.settings spare first (W.state wire.old) before self.old.pool self.old.desk heard (byte ∷ ahead)
-            → GoesOn self.new.settings spare first (W.state wire.new) before self.new.pool self.new.desk heard ahead result }
-        ensures cells_stay { cells self.new.pool ≡ cells self.old.pool }
-    {
-        let answer = self.terminal.feed(byte, &self.settings, &mut self.pool);
-        match answer {
-            Answer::Nothing => None,
-            Answer::End => {
-                let _ = wire.say(reply(answer));
-                Some(self.decided())
-            }
-            _ => {
-                if let Err(Failed) = wire.say(reply(answer)) {
-                    return Some(SessionEnd::LineLost);
-                }
-                None
-            }
-        }
-    }
-
-    /// The end of a session that the terminal ended.
-    fn decided(&self) -> SessionEnd
-        ensures { (password : Option (List ℕ)) (directory : Directory) (spare left : ℕ) (x : List ℕ) (session : Session)
-            → Stands password directory spare self.now.desk x session left → result ≡ end_decided session.forced }
-    {
-        if self.terminal.forced() {
-            SessionEnd::Forced
-        } else {
-            SessionEnd::Ended
-        }
+        session_on(&mut Snpp::new(), &self.settings, &mut self.pool, wire)
     }
 }

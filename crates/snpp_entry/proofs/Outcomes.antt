@@ -12,6 +12,7 @@ use Rattle.page_text.specs.FitTest.{fits}
 use Rattle.snpp_entry.specs.Lines.{verb, argument}
 use Rattle.subscribers.specs.Directory.{Directory}
 use Rattle.snpp_entry.specs.Rows.{Pending, Outcome, nothing, without_page, with_id, page_row, mess_row, send_text, pending_text, sent_for, send_to, send_row, alone, by_verb, verb_of, outcome, pages_to, capcodes}
+use Rattle.snpp_entry.specs.Session.{is_for_length}
 use Rattle.snpp_entry.specs.State.{IsOutcomeDone, snpp_said}
 use Rattle.page_text.proofs.FitTest.{fits_from_test, test_from_fits}
 
@@ -52,9 +53,10 @@ long_outcome directory spare p line h =
     let t : nat_lt 1100 (length line) ≡ true = grind (arith, nat_tests) in
     ap (λ b. cond b (without_page Command p) (by_verb directory spare p (verb_of (verb line)) (argument line))) t
 
--- it is said, and at most one page is queued
+-- it is said, isn't for the length, and at most one page is queued
 pub record IsUsual (o : Outcome) : Type 0 where
   pub is_said : snpp_said o.answer ≡ o.answer ∷ []
+  pub in_time : is_for_length o.answer ≡ false
   pub few : length o.pages ≤ 1
 
 -- two outcomes
@@ -69,53 +71,53 @@ none = omega arith
 -- a page with a text
 text_usual : (spare : ℕ) (s : Subscriber) (text : List ℕ) → IsUsual (send_text spare s text)
 text_usual spare s text = by_test (fits s.function text) _ _
-    (by_test (nat_lt spare (cells_for (length text) * length (capcodes s))) _ _ (record { is_said = refl; few = none }) (record { is_said = refl; few = omega arith }))
-    (record { is_said = refl; few = none })
+    (by_test (nat_lt spare (cells_for (length text) * length (capcodes s))) _ _ (record { is_said = refl; in_time = refl; few = none }) (record { is_said = refl; in_time = refl; few = omega arith }))
+    (record { is_said = refl; in_time = refl; few = none })
 
 -- with a text or none
 by_usual : (spare : ℕ) (p : Pending) (s : Subscriber) (text : Option (List ℕ)) → IsUsual (sent_for spare p s text)
-by_usual spare p s None = record { is_said = refl; few = none }
+by_usual spare p s None = record { is_said = refl; in_time = refl; few = none }
 by_usual spare p s (Some text) = text_usual spare s text
 
 -- with a subscriber or none
 to_usual : (spare : ℕ) (p : Pending) (s : Option Subscriber) → IsUsual (send_to spare p s)
-to_usual spare p None = record { is_said = refl; few = none }
+to_usual spare p None = record { is_said = refl; in_time = refl; few = none }
 to_usual spare p (Some s) = by_usual spare p s (pending_text s.function p.text)
 
 -- with an id or none
 send_usual : (directory : Directory) (spare : ℕ) (p : Pending) (id : Option (List ℕ)) → IsUsual (send_row directory spare p id)
-send_usual directory spare p None = record { is_said = refl; few = none }
+send_usual directory spare p None = record { is_said = refl; in_time = refl; few = none }
 send_usual directory spare p (Some id) = to_usual spare p (directory id)
 
 -- an id where none is pending
 id_usual : (p : Pending) (id : List ℕ) (s : Option Subscriber) → IsUsual (with_id p id s)
-id_usual p id None = record { is_said = refl; few = none }
-id_usual p id (Some s) = record { is_said = refl; few = none }
+id_usual p id None = record { is_said = refl; in_time = refl; few = none }
+id_usual p id (Some s) = record { is_said = refl; in_time = refl; few = none }
 
 -- an id
 page_usual : (directory : Directory) (p : Pending) (id : List ℕ) (o : Option (List ℕ)) → IsUsual (page_row directory p id o)
 page_usual directory p id None = id_usual p id (directory id)
-page_usual directory p id (Some other) = record { is_said = refl; few = none }
+page_usual directory p id (Some other) = record { is_said = refl; in_time = refl; few = none }
 
 -- a text
 mess_usual : (p : Pending) (text : List ℕ) (o : Option (List ℕ)) → IsUsual (mess_row p text o)
-mess_usual p text None = record { is_said = refl; few = none }
-mess_usual p text (Some other) = record { is_said = refl; few = none }
+mess_usual p text None = record { is_said = refl; in_time = refl; few = none }
+mess_usual p text (Some other) = record { is_said = refl; in_time = refl; few = none }
 
 -- with an argument or none
 alone_usual : (a : List ℕ) (p : Pending) (o : Outcome) → IsUsual o → IsUsual (alone a p o)
 alone_usual [] p o h = h
-alone_usual (c ∷ a) p o h = record { is_said = refl; few = none }
+alone_usual (c ∷ a) p o h = record { is_said = refl; in_time = refl; few = none }
 
 -- all verbs
 verb_usual : (directory : Directory) (spare : ℕ) (p : Pending) (v : Verb) (a : List ℕ) → IsUsual (by_verb directory spare p v a)
 verb_usual directory spare p PAGE a = page_usual directory p a p.id
 verb_usual directory spare p MESS a = mess_usual p a p.text
-verb_usual directory spare p RESE a = alone_usual a p _ (record { is_said = refl; few = none })
+verb_usual directory spare p RESE a = alone_usual a p _ (record { is_said = refl; in_time = refl; few = none })
 verb_usual directory spare p SEND a = alone_usual a p _ (send_usual directory spare p p.id)
-verb_usual directory spare p QUIT a = alone_usual a p _ (record { is_said = refl; few = none })
-verb_usual directory spare p OTHER a = record { is_said = refl; few = none }
+verb_usual directory spare p QUIT a = alone_usual a p _ (record { is_said = refl; in_time = refl; few = none })
+verb_usual directory spare p OTHER a = record { is_said = refl; in_time = refl; few = none }
 
 -- all lines
 pub usual : (directory : Directory) (spare : ℕ) (p : Pending) (line : List ℕ) → IsUsual (outcome directory spare p line)
-usual directory spare p line = by_test (nat_lt 1100 (length line)) _ _ (record { is_said = refl; few = none }) (verb_usual directory spare p (verb_of (verb line)) (argument line))
+usual directory spare p line = by_test (nat_lt 1100 (length line)) _ _ (record { is_said = refl; in_time = refl; few = none }) (verb_usual directory spare p (verb_of (verb line)) (argument line))

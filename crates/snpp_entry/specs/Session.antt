@@ -39,6 +39,17 @@ is_bye Pager = false
 is_bye Text = false
 is_bye Room = false
 
+-- the answer is for the length of the session
+abbrev pub is_for_length : SnppAnswer → Bool
+is_for_length TooLong = true
+is_for_length other = false
+
+-- the answer ends the session: at goodbye, or for its length
+abbrev pub is_final : SnppAnswer → Bool
+is_final Bye = true
+is_final TooLong = true
+is_final other = false
+
 -- the pieces in order, up to the first Bye
 abbrev pub snpp_tell : Directory → SnppCourse → List (List ℕ) → List Outcome
 snpp_tell directory s [] = []

@@ -22,7 +22,7 @@ use Rattle.tap_terminal.specs.Verdict.{Verdict, by_end, fields_for, refused, roo
 use Rattle.tap_terminal.specs.declared.answers.Answer.TheVariants.{Ack, Nak}
 use Rattle.tap_terminal.specs.declared.answers.Reason.TheVariants.{Body, Content, Room, Text}
 use Rattle.station.specs.AcceptedPages.{AreAcceptable}
-use Rattle.serving.specs.Sessions.{SessionOf}
+use Rattle.serving.specs.TapSessions.{SessionOf}
 use Rattle.station.proofs.UsableSettings.{GivesUsable, IsUsable-from_settings_of}
 
 -- the page, if there is one, is acceptable

@@ -35,7 +35,7 @@ use Rattle.tap_terminal.specs.declared.answers.Answer.TheVariants.{Ack, Nak}
 use Rattle.tap_terminal.specs.declared.answers.Reason.TheVariants.{Body, Content, Room, Text}
 use Rattle.station.specs.AirRoom.{AirsFit, ShelfFits, WireFits, most_air}
 use Rattle.serving.specs.Served.{airs}
-use Rattle.serving.specs.Sessions.{SessionOf}
+use Rattle.serving.specs.TapSessions.{SessionOf}
 
 -- ---- the words of a page, by its cells
 

@@ -39,7 +39,7 @@ use Rattle.station.specs.Outcomes.{line_about, pages_line}
 use Rattle.listening.specs.PageLines.{play_lines}
 use Rattle.serving.specs.ReportLine.{longest_line}
 use Rattle.station.specs.Rows.{Acts, Objects, around}
-use Rattle.serving.specs.Sessions.{SessionOf}
+use Rattle.serving.specs.TapSessions.{SessionOf}
 use Rattle.endings.specs.Statuses.{status_line}
 use Rattle.listening.specs.Table.{table_of}
 use Rattle.serving.specs.Trying.{trial_lines}

@@ -16,6 +16,7 @@ use Rattle.station.specs.OneStation.{FitStation, OneStation}
 use Rattle.station.specs.ReadFile.{Unharmed}
 use Rattle.station.specs.OneOutcome.{LeftAlike}
 use Rattle.station.specs.Rows.{Objects, around}
+use Rattle.serving.specs.Protocols.{tap}
 use Rattle.serving.specs.Served.{FitOut, FitShelf, FitWire, airs}
 use Rattle.serving.specs.Serving.{Around, AtDone, HasServed}
 use Rattle.station.specs.StationRows.{ServedBy, StationRow, with_shelf}
@@ -26,7 +27,7 @@ use Rattle.station.proofs.OneSettings.{ok_and_err, one_err, one_ok}
 
 -- a shelf of which a file was read is as fit
 fit_after : (settings : Parts) (spare most : ℕ) (wire : Line) (old now : Files) (name file : List ℕ) → IsTrue old.tells → IsTrue old.steady → IsTrue (old.there name) → Unharmed name old now
-    → FitShelf settings spare wire old file most → FitShelf settings spare wire now file most
+    → FitShelf tap settings spare wire old file most → FitShelf tap settings spare wire now file most
 fit_after settings spare most wire old now name file t s there h fit =
     let back : all_files old ≡ all_files now = sym h.kept.files in
     record {
@@ -38,8 +39,8 @@ fit_after settings spare most wire old now name file t s there h fit =
     }
 
 -- over fit objects serving comes to Done
-serves : (settings : Parts) (spare most : ℕ) (old new : Around) (address name : List ℕ) (status : Status) → FitWire settings spare old.wire most → FitShelf settings spare old.wire old.shelf name most → FitOut old.out most
-    → HasServed settings spare old new address name most status → (status ≡ Done) × AtDone settings spare old new address name most
+serves : (settings : Parts) (spare most : ℕ) (old new : Around) (address name : List ℕ) (status : Status) → FitWire tap settings spare old.wire most → FitShelf tap settings spare old.wire old.shelf name most → FitOut old.out most
+    → HasServed tap settings spare old new address name most status → (status ≡ Done) × AtDone tap settings spare old new address name most
 serves settings spare most old new address name Done wire shelf out h = (refl, h)
 serves settings spare most old new address name WireFault wire shelf out h =
     let few : length h.sessions ≤ most = elim h.few [ inl fewer ↦ omega (arith, fewer) | inr none ↦ omega (arith, ap length none) ] in
@@ -56,7 +57,7 @@ pub record IsServed (settings address air : List ℕ) (count : ℕ) (old new : A
   pub tells : IsTrue shelf.tells
   pub kept : all_files shelf ≡ all_files old.shelf
   pub settings_are : settings_of (old.shelf.file settings) ≡ Ok parts
-  pub done : AtDone parts parts.cells (with_shelf old shelf) new address air count
+  pub done : AtDone tap parts parts.cells (with_shelf old shelf) new address air count
   pub outcome_is : outcome ≡ Ended Done
 
 -- The settings are refused, and nothing was touched.
@@ -120,7 +121,7 @@ both_served : (settings address air : List ℕ) (count : ℕ) (old new other : O
     → IsServed settings address air count (around old) (around other) another → (another ≡ outcome) × LeftAlike new other
 both_served settings address air count old new other outcome another fit h k =
     let same : k.parts ≡ h.parts = one_ok (settings_of (old.shelf.file settings)) h.parts k.parts h.settings_are k.settings_are in
-    let done : AtDone h.parts h.parts.cells (with_shelf (around old) k.shelf) (around other) address air count = subst (λ (p : Parts). AtDone p p.cells (with_shelf (around old) k.shelf) (around other) address air count) same k.done in
+    let done : AtDone tap h.parts h.parts.cells (with_shelf (around old) k.shelf) (around other) address air count = subst (λ (p : Parts). AtDone tap p p.cells (with_shelf (around old) k.shelf) (around other) address air count) same k.done in
     let made = done_alike h.parts h.parts.cells count old.wire h.shelf k.shelf old.streams.out (around new) (around other) address air (fit.wire h.parts h.settings_are) h.tells k.tells (fit.out).tells h.done done in
     let files = files_alike settings address air count (around old) (around new) (around other) outcome another h k made.sent in (
       k.outcome_is ∙ sym h.outcome_is,

@@ -23,7 +23,7 @@ use Rattle.endings.specs.declared.statuses.Status.TheVariants.{Done, FileFault, 
 use Rattle.station.specs.OneTrial.{FitTrial, OneTrial}
 use Rattle.listening.specs.PageLines.{play_lines}
 use Rattle.station.specs.Rows.{Streams}
-use Rattle.serving.specs.Sessions.{SessionOf}
+use Rattle.serving.specs.TapSessions.{SessionOf}
 use Rattle.station.specs.StationRows.{TrialRow, TriedBy}
 use Rattle.serving.specs.Trying.{TriedAll, Tries, trial_lines}
 use Rattle.station.proofs.LeftAlike.{kept_alike, same_said}

@@ -39,6 +39,7 @@ use Rattle.near.specs.NearAir.{AreUsable}
 use Rattle.station.specs.Promises.{AcceptedWhileFit, AreAccepted, FaultPromise, FilePromise, HearLists, HearNear, HearNearLine, HearsTrial, ServedSend, StationPromise, TrialPromise, accepted_in}
 use Rattle.station.specs.ReadFile.{ReadSettings, Unreadable}
 use Rattle.station.specs.Rows.{Acts, Objects, Promises}
+use Rattle.serving.specs.Protocols.{tap}
 use Rattle.serving.specs.Served.{AllFrom, IsWhole, Served, ServedInTurn, airs}
 use Rattle.serving.specs.Serving.{Around, AtAppendFault, AtFreshFault}
 use Rattle.station.specs.StationRows.{AreFileBits, LeavesWireAndOut, ServedBy, StationRow, TrialRow, with_shelf}
@@ -130,19 +131,19 @@ trial_promise settings noise receivers input0 input old new out0 out (Ended stat
 
 -- ---- sessions that were served
 
-airs_of : {settings : Parts} {spare : ℕ} (sessions : List (Served settings spare)) → IsAirs (accepted_in sessions) (airs sessions)
+airs_of : {settings : Parts} {spare : ℕ} (sessions : List (Served tap settings spare)) → IsAirs (accepted_in sessions) (airs sessions)
 unfolding IsAirs
 airs_of [] = refl
 airs_of (s ∷ sessions) = (s.bits, airs sessions, s.is_air, airs_of sessions, refl)
 
-acceptable_in : (bytes : List ℕ) {settings : Parts} {spare : ℕ} (sessions : List (Served settings spare)) → settings_of bytes ≡ Ok settings → All (All IsAcceptable) (accepted_in sessions)
+acceptable_in : (bytes : List ℕ) {settings : Parts} {spare : ℕ} (sessions : List (Served tap settings spare)) → settings_of bytes ≡ Ok settings → All (All IsAcceptable) (accepted_in sessions)
 acceptable_in bytes [] h = All-nil (All IsAcceptable)
 acceptable_in bytes {settings = settings} {spare = spare} (s ∷ sessions) h =
     All-cons (All IsAcceptable) s.ran.session.pages (accepted_in sessions) (are_acceptable bytes settings spare s.ran.fed s.ran.session h s.ran.session_is)
     (acceptable_in bytes sessions h)
 
 -- the pages that whole sessions accepted
-accepted_from : {settings : Parts} {spare : ℕ} (first now : Line) (k : ℕ) (sessions : List (Served settings spare)) → AllFrom (IsWhole first now) k sessions → AllFrom (AreAccepted settings spare first) k (accepted_in sessions)
+accepted_from : {settings : Parts} {spare : ℕ} (first now : Line) (k : ℕ) (sessions : List (Served tap settings spare)) → AllFrom (IsWhole first now) k sessions → AllFrom (AreAccepted settings spare first) k (accepted_in sessions)
 accepted_from first now k [] h = tt
 accepted_from {settings} {spare} first now k (s ∷ sessions) h = (
   λ session is. ap (λ (z : Session). z.pages) (one_session settings.password (directory_of settings) spare (characters (first.connection k).rest) session s.ran.session is (h.0).session_is),
@@ -150,19 +151,19 @@ accepted_from {settings} {spare} first now k (s ∷ sessions) h = (
 )
 
 -- the first sessions of those that were served in turn
-accepted_while : {settings : Parts} {spare : ℕ} (first now : Line) (sessions more : List (Served settings spare)) → ServedInTurn first now (sessions ++ more) → IsTrue first.tells → IsTrue first.steady
+accepted_while : {settings : Parts} {spare : ℕ} (first now : Line) (sessions more : List (Served tap settings spare)) → ServedInTurn first now (sessions ++ more) → IsTrue first.tells → IsTrue first.steady
     → AcceptedWhileFit settings spare first (accepted_in sessions)
 accepted_while {settings} {spare} first now sessions more h t st n fit =
     let cut : take n sessions ++ (drop n sessions ++ more) ≡ sessions ++ more =
-    sym (append_assoc (take n sessions) (drop n sessions) more) ∙ ap (λ (l : List (Served settings spare)). l ++ more) (take-append-drop n sessions) in
-    let turn = subst (λ (l : List (Served settings spare)). ServedInTurn first now l) (sym cut) h in
+    sym (append_assoc (take n sessions) (drop n sessions) more) ∙ ap (λ (l : List (Served tap settings spare)). l ++ more) (take-append-drop n sessions) in
+    let turn = subst (λ (l : List (Served tap settings spare)). ServedInTurn first now l) (sym cut) h in
     let few : length (take n sessions) ≤ n = simp length-take (omega arith) in
     let whole = turn-wholes first now (take n sessions) (drop n sessions ++ more) turn t st (λ k from lt. fit k from (omega (arith, lt, few))) in
-    subst (λ (l : List (List Page)). AllFrom (AreAccepted settings spare first) first.opened l) (sym (take-map (λ (s : Served settings spare). s.ran.session.pages) n sessions))
+    subst (λ (l : List (List Page)). AllFrom (AreAccepted settings spare first) first.opened l) (sym (take-map (λ (s : Served tap settings spare). s.ran.session.pages) n sessions))
     (accepted_from first now first.opened (take n sessions) whole)
 
 -- what sessions send that were served by the settings of a file
-served_send : (bytes : List ℕ) {settings : Parts} {spare : ℕ} (old : Around) (now : Line) (sessions more : List (Served settings spare)) → ServedInTurn old.wire now (sessions ++ more) → (IsTrue old.shelf.tells → settings_of bytes ≡ Ok settings)
+served_send : (bytes : List ℕ) {settings : Parts} {spare : ℕ} (old : Around) (now : Line) (sessions more : List (Served tap settings spare)) → ServedInTurn old.wire now (sessions ++ more) → (IsTrue old.shelf.tells → settings_of bytes ≡ Ok settings)
     → ServedSend old sessions
 served_send bytes old now sessions more turn read = record {
   sends = λ t.
@@ -177,13 +178,13 @@ served_send bytes old now sessions more turn read = record {
 }
 
 -- where these are all
-all_send : (bytes : List ℕ) {settings : Parts} {spare : ℕ} (old : Around) (now : Line) (sessions : List (Served settings spare)) → ServedInTurn old.wire now sessions → (IsTrue old.shelf.tells → settings_of bytes ≡ Ok settings)
+all_send : (bytes : List ℕ) {settings : Parts} {spare : ℕ} (old : Around) (now : Line) (sessions : List (Served tap settings spare)) → ServedInTurn old.wire now sessions → (IsTrue old.shelf.tells → settings_of bytes ≡ Ok settings)
     → ServedSend old sessions
 all_send bytes {settings = settings} {spare = spare} old now sessions turn read =
-    served_send bytes old now sessions [] (subst (λ (l : List (Served settings spare)). ServedInTurn old.wire now l) (sym (append-nil sessions)) turn) read
+    served_send bytes old now sessions [] (subst (λ (l : List (Served tap settings spare)). ServedInTurn old.wire now l) (sym (append-nil sessions)) turn) read
 
 fault_promise : (bytes : List ℕ) (settings : Parts) (spare : ℕ) (first : Around) (files : Files) (new : Around) (address name : List ℕ) (most : ℕ)
-    (h : AtFreshFault settings spare (with_shelf first files) new name most ⊎ AtAppendFault settings spare (with_shelf first files) new address name most)
+    (h : AtFreshFault tap settings spare (with_shelf first files) new name most ⊎ AtAppendFault tap settings spare (with_shelf first files) new address name most)
     → (IsTrue first.shelf.tells → settings_of bytes ≡ Ok settings) → FaultPromise settings spare first (with_shelf first files) new address name most h
 fault_promise bytes settings spare first files new address name most (inl fresh) read = tt
 fault_promise bytes settings spare first files new address name most (inr fault) read = served_send bytes first new.wire fault.sessions (fault.unsent ∷ []) fault.wire read

@@ -14,6 +14,7 @@ use Rattle.endings.specs.declared.statuses.Status.{Status}
 use Rattle.endings.specs.declared.statuses.Status.TheVariants.{BadPages, BadSum, BadText, Done, FileFault, InputFault, LogonRefused, Memory, NotBlock, OutFault, Settings, SomeUnsent, TooLong, Usage, WireFault}
 use Rattle.listening.specs.PageLines.{play_lines}
 use Rattle.station.specs.ReadFile.{HasNoSettings, ReadSettings}
+use Rattle.serving.specs.Protocols.{tap}
 use Rattle.serving.specs.Serving.{Around, HasServed}
 use Rattle.station.specs.StationRows.{AreFileBits, ServedBy, StationRow, TrialRow, TriedBy, TriesFile, with_shelf}
 use Rattle.serving.specs.Trying.{Tries}
@@ -41,17 +42,17 @@ unset_trial settings noise receivers input old new out (Ended status) (inr h) =
 
 -- connections were served by settings
 served_by : (address settings air : List ℕ) (count : ℕ) (old new : Around) (parts s : Parts) (shelf : Files) (n : ℕ) (status : Status) → s ≡ parts → n ≡ parts.cells
-    → ReadSettings settings old.shelf shelf parts → HasServed s n (with_shelf old shelf) new address air count status → ServedBy address settings air count old new status
+    → ReadSettings settings old.shelf shelf parts → HasServed tap s n (with_shelf old shelf) new address air count status → ServedBy address settings air count old new status
 served_by address settings air count old new parts s shelf n status e k read h = record {
   parts = parts;
   shelf = shelf;
   read = read;
-  served = subst (λ (m : ℕ). HasServed parts m (with_shelf old shelf) new address air count status) k
-      (subst (λ (p : Parts). HasServed p n (with_shelf old shelf) new address air count status) e h);
+  served = subst (λ (m : ℕ). HasServed tap parts m (with_shelf old shelf) new address air count status) k
+      (subst (λ (p : Parts). HasServed tap p n (with_shelf old shelf) new address air count status) e h);
 }
 
 pub station_row : (address settings air : List ℕ) (count : ℕ) (old new : Around) (parts s : Parts) (shelf : Files) (n : ℕ) (status : Status) → s ≡ parts → n ≡ parts.cells
-    → ReadSettings settings old.shelf shelf parts → HasServed s n (with_shelf old shelf) new address air count status → StationRow address settings air count old new (Ended status)
+    → ReadSettings settings old.shelf shelf parts → HasServed tap s n (with_shelf old shelf) new address air count status → StationRow address settings air count old new (Ended status)
 station_row address settings air count old new parts s shelf n Memory e k read h = elim h [ ]
 station_row address settings air count old new parts s shelf n FileFault e k read h = inr (served_by address settings air count old new parts s shelf n FileFault e k read h)
 station_row address settings air count old new parts s shelf n Usage e k read h = served_by address settings air count old new parts s shelf n Usage e k read h

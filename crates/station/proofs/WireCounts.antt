@@ -15,11 +15,12 @@ use Rattle.calling.specs.Calls.{CallsUp, SendsSo}
 use Rattle.station.specs.SendRows.{SendRow}
 use Rattle.station.specs.Commands.{Command, One, Play, PlayLine, Send, Show, Station, Trial, WriteLine}
 use Rattle.station.specs.Rows.{Acts, HasEndedSo, Objects, Outside, Runs}
+use Rattle.serving.specs.Protocols.{tap}
 use Rattle.serving.specs.Serving.{Around, HasServed}
 use Rattle.station.specs.StationRows.{StationRow, with_shelf}
 use Rattle.serving.proofs.InTurn.{turn-keeps}
 
-count-served : (settings : Parts) (spare : ℕ) (old new : Around) (address name : List ℕ) (most : ℕ) (status : Status) → HasServed settings spare old new address name most status → new.wire.count ≡ old.wire.count
+count-served : (settings : Parts) (spare : ℕ) (old new : Around) (address name : List ℕ) (most : ℕ) (status : Status) → HasServed tap settings spare old new address name most status → new.wire.count ≡ old.wire.count
 count-served settings spare old new address name most Done h = (turn-keeps old.wire new.wire h.sessions h.wire).count
 count-served settings spare old new address name most WireFault h = (turn-keeps old.wire new.wire h.sessions h.wire).count
 count-served settings spare old new address name most FileFault (inl h) = ap (λ wire. wire.count) h.wire

@@ -4,7 +4,7 @@ use Rattle.page_text.specs.Page.{IsAcceptable}
 use Rattle.subscribers.specs.Parts.{Parts}
 use Rattle.subscribers.specs.Settings.{settings_of}
 use Rattle.tap_terminal.specs.Session.{Session}
-use Rattle.serving.specs.Sessions.{SessionOf}
+use Rattle.serving.specs.TapSessions.{SessionOf}
 
 -- Each page that a session accepts under the settings of a file has a usable capcode, and a text that fits its function.
 abbrev pub AreAcceptable : Type 0

@@ -18,7 +18,7 @@ use Rattle.tap_entry.specs.declared.hearing.Mark.{Mark}
 use Rattle.tap_entry.specs.declared.outcomes.Outcome.{Outcome}
 use Rattle.both_ends.specs.Joined.{sent_of}
 use Rattle.near.specs.NearAir.{AreUsable}
-use Rattle.serving.specs.Sessions.{SessionOf}
+use Rattle.serving.specs.TapSessions.{SessionOf}
 
 -- A client calls the terminal of these settings, and each hears what the other says: the client has these marks of the replies, and
 -- says for them what the terminal has this session of.

@@ -7,6 +7,7 @@ use Rattle.station.specs.declared.outcomes.Outcome.TheVariants.{Ended}
 use Rattle.endings.specs.declared.statuses.Status.TheVariants.{Memory}
 use Rattle.station.specs.OneOutcome.{LeftAlike}
 use Rattle.station.specs.Rows.{Objects, RunsStation, around}
+use Rattle.serving.specs.Protocols.{tap}
 use Rattle.serving.specs.Served.{FitOut, FitShelf, FitWire}
 use Rattle.serving.specs.Serving.{Around}
 
@@ -15,8 +16,8 @@ pub record FitStation (settings air : List ℕ) (count : ℕ) (old : Around) : T
   pub tells : IsTrue old.shelf.tells
   pub steady : IsTrue old.shelf.steady
   pub there : IsTrue (old.shelf.there settings)
-  pub wire : (parts : Parts) → settings_of (old.shelf.file settings) ≡ Ok parts → FitWire parts parts.cells old.wire count
-  pub shelf : (parts : Parts) → settings_of (old.shelf.file settings) ≡ Ok parts → FitShelf parts parts.cells old.wire old.shelf air count
+  pub wire : (parts : Parts) → settings_of (old.shelf.file settings) ≡ Ok parts → FitWire tap parts parts.cells old.wire count
+  pub shelf : (parts : Parts) → settings_of (old.shelf.file settings) ≡ Ok parts → FitShelf tap parts parts.cells old.wire old.shelf air count
   pub out : FitOut old.out count
 
 -- Over fit objects two runs of `station` that had memory answer the same, and leave the same.

@@ -13,7 +13,7 @@ use Rattle.endings.specs.declared.statuses.Status.TheVariants.{Memory}
 use Rattle.station.specs.OneOutcome.{LeftAlike}
 use Rattle.listening.specs.PageLines.{play_lines}
 use Rattle.station.specs.Rows.{Objects, RunsTrial, Streams}
-use Rattle.serving.specs.Sessions.{SessionOf}
+use Rattle.serving.specs.TapSessions.{SessionOf}
 use Rattle.serving.specs.Trying.{trial_lines}
 
 -- The shelf is steady and has both files, the input is steady, and the output too, with room for the lines of the trial.

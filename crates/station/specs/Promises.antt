@@ -22,10 +22,11 @@ use Rattle.station.specs.declared.outcomes.Outcome.TheVariants.{Ended}
 use Rattle.endings.specs.declared.statuses.Status.TheVariants.{Done, FileFault, OutFault, WireFault}
 use Rattle.near.specs.NearAir.{AreUsable, joined}
 use Rattle.listening.specs.PageLines.{pairs_heard}
+use Rattle.serving.specs.Protocols.{tap}
 use Rattle.serving.specs.Served.{AllFrom, NextFit, Served, airs}
 use Rattle.station.specs.ReadFile.{Unreadable}
 use Rattle.serving.specs.Serving.{Around, AtAppendFault, AtFreshFault}
-use Rattle.serving.specs.Sessions.{SessionOf}
+use Rattle.serving.specs.TapSessions.{SessionOf}
 use Rattle.station.specs.StationRows.{LeavesWireAndOut, ServedBy, StationRow, TrialRow, with_shelf}
 
 -- What each receiver, by its number, prints of each frame are exactly the pages of its capcodes in these lists, in order, each with its
@@ -60,7 +61,7 @@ TrialPromise settings noise receivers input0 input old new out0 out (Ended Done)
 TrialPromise settings noise receivers input0 input old new out0 out outcome row = Unit {0}
 
 -- the pages that sessions accepted, session by session
-abbrev pub accepted_in : {settings : Parts} {spare : ℕ} → List (Served settings spare) → List (List Page)
+abbrev pub accepted_in : {settings : Parts} {spare : ℕ} → List (Served tap settings spare) → List (List Page)
 accepted_in sessions = map (λ s. s.ran.session.pages) sessions
 
 -- The pages that sessions accepted are acceptable, and these are their transmissions, one after another. They are near as they were
@@ -78,17 +79,17 @@ AreAccepted settings spare wire k pages = (session : Session) → SessionOf sett
 -- As long as the next connections have room for the replies, the first of these lists are the pages of their sessions, whatever happens
 -- on connections behind them.
 abbrev pub AcceptedWhileFit : Parts → ℕ → Line → List (List Page) → Type 0
-AcceptedWhileFit settings spare wire lists = (n : ℕ) → NextFit settings spare wire n → AllFrom (AreAccepted settings spare wire) wire.opened (take n lists)
+AcceptedWhileFit settings spare wire lists = (n : ℕ) → NextFit tap settings spare wire n → AllFrom (AreAccepted settings spare wire) wire.opened (take n lists)
 
 -- Sessions that were served send what they accepted. Over a steady wire, while its connections are fit, that is what the sessions of all
 -- that was to be heard accept.
-pub record ServedSend {settings : Parts} {spare : ℕ} (old : Around) (sessions : List (Served settings spare)) : Type 0 where
+pub record ServedSend {settings : Parts} {spare : ℕ} (old : Around) (sessions : List (Served tap settings spare)) : Type 0 where
   pub sends : IsTrue old.shelf.tells → SendsAccepted (accepted_in sessions) (airs sessions)
   pub whole : IsTrue old.wire.tells → IsTrue old.wire.steady → AcceptedWhileFit settings spare old.wire (accepted_in sessions)
 
 -- where an append failed, this holds of the sessions before the last one
 abbrev pub FaultPromise : (settings : Parts) (spare : ℕ) (first old new : Around) (address name : List ℕ) (most : ℕ)
-    → AtFreshFault settings spare old new name most ⊎ AtAppendFault settings spare old new address name most → Type 0
+    → AtFreshFault tap settings spare old new name most ⊎ AtAppendFault tap settings spare old new address name most → Type 0
 FaultPromise settings spare first old new address name most (inl fresh) = Unit {0}
 FaultPromise settings spare first old new address name most (inr fault) = ServedSend first fault.sessions
 

@@ -11,6 +11,7 @@ use Rattle.endings.specs.declared.statuses.Status.{Status}
 use Rattle.endings.specs.declared.statuses.Status.TheVariants.{FileFault, Memory}
 use Rattle.listening.specs.PageLines.{play_lines}
 use Rattle.station.specs.ReadFile.{KeepsFiles, ReadSettings, RefusedSettings, Unharmed, Unreadable}
+use Rattle.serving.specs.Protocols.{tap}
 use Rattle.serving.specs.Serving.{Around, HasServed}
 use Rattle.serving.specs.Trying.{TrialOutWell, Tries}
 
@@ -23,7 +24,7 @@ pub record ServedBy (address settings air : List ℕ) (count : ℕ) (old new : A
   pub parts : Parts
   pub shelf : Files
   pub read : ReadSettings settings old.shelf shelf parts
-  pub served : HasServed parts parts.cells (with_shelf old shelf) new address air count status
+  pub served : HasServed tap parts parts.cells (with_shelf old shelf) new address air count status
 
 -- Wire and output are as they were.
 pub record LeavesWireAndOut (old new : Around) : Type 0 where

@@ -1,10 +1,7 @@
-use Rattle.std.proofs.Common.{ℕ, List, [], ◌++◌, ◌∙◌, take, length-append, ap, subst, sym, arith}
+use Rattle.std.proofs.Common.{[], ◌++◌, ◌∙◌, take, length-append, ap, subst, sym, arith}
 use Rattle.std.proofs.lemmas.List.{length-take-le}
 use Rattle.subscribers.specs.Parts.{Parts}
-use Rattle.std.specs.Prelude.{Option}
 use Rattle.page_pool.specs.Pool.{cells}
-use Rattle.subscribers.specs.Directory.{directory_of}
-use Rattle.tap_terminal.specs.State.{Stands, unheard}
 use Rattle.serving.specs.Answering.{Answering, StoppedUnprinted}
 use Rattle.serving.specs.StationState.{StationState}
 use Rattle.serving.proofs.Answered.{answered_all, answered_broken, answered_to_end, begins, course_ends, course_goes, few_taken, takes_more}
@@ -16,10 +13,8 @@ loop-init g c = record {
   cells_stay = ap (λ (h : StationState). cells h.pool) c.self.view_is;
   so_far = (
     [],
-    subst (λ (h : StationState). Answering h.settings h.pool.spare (g.I.Source.state c.args.input.now) (g.I.Source.state c.args.input.now) h.pool c.self.inside.pool c.begin.new.self
-        (g.O.Sink.state c.args.out.now) (g.O.Sink.state c.args.out.now) [] []) c.self.view_is (begins _ _ c.self.inside.pool _ _
-        (subst (λ (password : Option (List ℕ)). Stands password (directory_of c.self.inside.settings) c.self.inside.pool.spare c.begin.new.self [] unheard c.self.inside.pool.spare) c.self.invariant.password
-        (c.begin.ensures.stands (directory_of c.self.inside.settings) c.self.inside.pool.spare))),
+    subst (λ (h : StationState). Answering h.settings h.pool.spare (g.I.Source.state c.args.input.now) (g.I.Source.state c.args.input.now) h.pool c.self.inside.pool c.start.new.self
+        (g.O.Sink.state c.args.out.now) (g.O.Sink.state c.args.out.now) [] []) c.self.view_is (begins _ _ c.self.inside.pool _ _ (c.start.ensures c.self.inside.pool.spare)),
     omega arith,
   );
 }
