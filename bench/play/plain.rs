@@ -4,7 +4,8 @@
 #[path = "../receiver/plain.rs"]
 mod plain;
 
-use plain::{CAPCODE, Code, is_sync};
+pub use plain::Code;
+use plain::{CAPCODE, is_sync};
 use std::fs::File;
 use std::io::{Read, Write};
 use std::mem::ManuallyDrop;
@@ -13,25 +14,29 @@ use std::os::fd::FromRawFd;
 const HEX_DIGITS: &[u8; 16] = b"0123456789ABCDEF";
 
 /// A receiver that takes some bits at a time.
-struct Pieces {
+pub struct Pieces {
     is_locked: bool,
     place: u32,
     register: u32,
     count: u32,
     page: Option<u32>,
     groups: Vec<u32>,
-    ready: Option<u32>,
+    pub ready: Option<u32>,
 }
 
 /// Bits that are left of a piece: the lowest so many.
-struct Piece {
-    bits: u32,
-    count: u32,
+pub struct Piece {
+    pub bits: u32,
+    pub count: u32,
 }
 
 impl Pieces {
+    pub fn new() -> Pieces {
+        Pieces { is_locked: false, place: 0, register: 0, count: 0, page: None, groups: Vec::with_capacity(141), ready: None }
+    }
+
     /// Takes the first bits of a piece: up to one that completes a page, or all. Says whether one is complete.
-    fn feed(&mut self, code: &Code, piece: &mut Piece) -> bool {
+    pub fn feed(&mut self, code: &Code, piece: &mut Piece) -> bool {
         while piece.count > 0 {
             if self.meet(code, piece) {
                 return true;
@@ -143,7 +148,7 @@ impl Pieces {
 }
 
 /// Puts the line of a page.
-fn print(out: &mut File, pieces: &Pieces, function: u32) -> std::io::Result<()> {
+pub fn print(out: &mut File, pieces: &Pieces, function: u32) -> std::io::Result<()> {
     let mut text = [0; 700];
     let length = pieces.text(function, &mut text);
     let mut line = Vec::with_capacity(2811);
@@ -170,7 +175,7 @@ fn main() -> std::io::Result<()> {
     let mut file = File::open(name)?;
     let mut out = ManuallyDrop::new(unsafe { File::from_raw_fd(1) });
     let code = Code::new();
-    let mut pieces = Pieces { is_locked: false, place: 0, register: 0, count: 0, page: None, groups: Vec::with_capacity(141), ready: None };
+    let mut pieces = Pieces::new();
     let mut buffer = [0; 4096];
     loop {
         let n = file.read(&mut buffer)?;
