@@ -40,7 +40,7 @@ pub fn line<K: Sink>(
 }
 
 /// The line.
-fn written(capcode: Capcode, function: Function, text: &[u8]) -> ArrayVec<u8, LONGEST_LINE>
+pub fn written(capcode: Capcode, function: Function, text: &[u8]) -> ArrayVec<u8, LONGEST_LINE>
     requires { length text.now ≤ LONGEST_READ }
     ensures { result.items ≡ line_of capcode function text.now }
 {

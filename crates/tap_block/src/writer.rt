@@ -28,7 +28,7 @@ pub fn put_block<K: Sink>(body: &[u8], end: End, sink: &mut K) -> Result<(), Fai
 }
 
 /// The characters of a block with a right trailer.
-fn block(body: &[u8], end: End) -> ArrayVec<u8, LONGEST_BLOCK>
+pub fn block(body: &[u8], end: End) -> ArrayVec<u8, LONGEST_BLOCK>
     requires size { length body.now ≤ LONGEST_BODY }
     requires characters { AllByRecursion IsChar body.now }
     ensures { result.items ≡ block_of body.now end }

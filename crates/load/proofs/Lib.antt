@@ -1,0 +1,14 @@
+pub mod Accepted
+pub mod Counted
+pub mod CountedLines
+pub mod Drawn
+pub mod Fed
+pub mod Flipped
+pub mod Generator
+pub mod HeardPages
+pub mod Hearing
+pub mod Listed
+pub mod Members
+pub mod NearNoise
+pub mod Runs
+pub mod WordNoises

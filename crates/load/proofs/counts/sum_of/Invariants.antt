@@ -1,0 +1,5 @@
+use Rattle.std.proofs.Common.{◌≡◌, ◌≤◌, ◌*◌, sum, take}
+use Rattle.load.proofs.counts.sum_of.Given as goal
+
+abbrev pub invariant-loop-byte : goal.invariant-loop-byte
+invariant-loop-byte l = record { value : l.sum ≡ sum (take l.byte-index l.bytes); most : l.sum ≤ 255 * l.byte-index }

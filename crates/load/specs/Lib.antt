@@ -1,0 +1,9 @@
+pub mod Draws
+pub mod Subscribers
+pub mod Generated
+pub mod Feeding
+pub mod Noises
+pub mod WordNoises
+pub mod Counting
+pub mod Report
+pub mod Loads
