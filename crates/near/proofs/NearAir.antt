@@ -1,38 +1,24 @@
 -- What is heard of near transmissions, one after another.
-use Rattle.std.proofs.Common.{◌≡◌, ℕ, zero, suc, ◌*◌, ◌/◌, ◌<◌, Bool, true, false, ◌&&◌, cond, List, [], ◌∷◌, ◌++◌, length, map, flat_map, arith, refl, sym, ◌∙◌, ap, ap₂, subst, append_assoc}
+use Rattle.std.proofs.Common.{◌≡◌, ℕ, suc, ◌*◌, ◌/◌, Bool, true, false, ◌&&◌, cond, List, [], ◌∷◌, ◌++◌, length, map, flat_map, arith, refl, sym, ◌∙◌, ap, ap₂, subst, append_assoc}
 use Rattle.std.specs.List.{All, filter}
 use Rattle.std.proofs.lemmas.List.{map-append}
 use Rattle.std.proofs.lemmas.List.Elements.{All-head, All-tail, filter-append}
 use Rattle.bits.specs.Bits.{word_bits}
 use Rattle.page_text.specs.Page.{Page, IsAcceptable}
-use Rattle.scheduler.specs.Slots.{PlanPiece, Idle, words, in_frame, IsSchedule}
-use Rattle.scheduler.proofs.Pieces.{place-append}
+use Rattle.scheduler.specs.Slots.{in_frame, IsSchedule}
 use Rattle.air.specs.Air.{batches, IsAir}
 use Rattle.air.specs.Near.{IsNearAir, Near}
-use Rattle.receiver.specs.Stretches.{first_stretches, stretches}
+use Rattle.receiver.specs.Stretches.{first_stretches, first_words, stretches}
 use Rattle.receiver.specs.Heard.{with_text, stretch_pages, heard}
 use Rattle.receiver.specs.Slots.{stretch_slots}
 use Rattle.codeword.specs.Words.{filler}
 use Rattle.receiver.specs.Windows.{preamble_bits}
 use Rattle.near.specs.NearAir.{AreUsable, NearAir, joined}
-use Rattle.near.proofs.NearWords.{IsNearWords, near_air-parts}
+use Rattle.near.proofs.NearWords.{AreHeard, copy_parts, near_copy}
 use Rattle.near.proofs.NearStretches.{After, nothing, next, FirstStretch, first_stretch}
-use Rattle.near.proofs.NearPages.{IsKept, schedule_pages}
+use Rattle.near.proofs.NearPages.{IsKept, batches_in, schedule_pages}
 
 -- ---- one transmission
-
--- the slots of a schedule are whole batches, at least one
-batches_in : (accepted : List Page) (slots : List ℕ) → IsSchedule accepted slots → (n : ℕ) × (length slots ≡ 16 * suc n)
-batches_in accepted slots s =
-    let b = s.layout.batches.0 in
-    let e : length slots ≡ 16 * b = ap length s.slots_are ∙ s.layout.batches.1 in
-    let p = ap (λ (ps : List PlanPiece). length (words ps)) s.layout.idle_last.1 in
-    let q = place-append s.layout.idle_last.0 (Idle ∷ []) in
-    some_batches b (length slots) e (omega (arith, ap length s.slots_are, p, q))
-  where
-    some_batches : (b l : ℕ) → l ≡ 16 * b → 0 < l → (n : ℕ) × (l ≡ 16 * suc n)
-    some_batches zero l e h = absurd (omega arith)
-    some_batches (suc n) l e h = (n, e)
 
 -- what is heard of one transmission: a clean preamble, and the batches of its slots
 record OneAir (accepted : List Page) (first : List Bool) : Type 0 where
@@ -42,13 +28,14 @@ record OneAir (accepted : List Page) (first : List Bool) : Type 0 where
   whole_batches : length slots ≡ 16 * suc n
   body : List Bool
   first-is : first ≡ preamble_bits 18 ++ body
-  near : IsNearWords (batches (suc n) slots) body
+  long : length body ≡ 32 * length (batches (suc n) slots)
+  heard : AreHeard (λ k. true) 0 (batches (suc n) slots) (first_words (length (batches (suc n) slots)) body)
 
 one_air : (page : Page) (more : List Page) (air first : List Bool) → IsAir (page ∷ more) air → IsNearAir air first → OneAir (page ∷ more) first
 one_air page more air first a near =
     let b = batches_in (page ∷ more) a.0 a.1 in
     let e : length a.0 / 16 ≡ suc b.0 = sixteenth b.0 b.1 in
-    let parts = near_air-parts (batches (length a.0 / 16) a.0) first (subst (λ (xs : List Bool). IsNearAir xs first) a.2 near) in
+    let parts = copy_parts (λ k. true) (batches (length a.0 / 16) a.0) first (near_copy _ first (subst (λ (xs : List Bool). IsNearAir xs first) a.2 near)) in
     record {
       slots = a.0;
       schedule = a.1;
@@ -56,7 +43,8 @@ one_air page more air first a near =
       whole_batches = b.1;
       body = parts.body;
       first-is = parts.whole;
-      near = subst (λ (k : ℕ). IsNearWords (batches k a.0) parts.body) e parts.near;
+      long = subst (λ (k : ℕ). length parts.body ≡ 32 * length (batches k a.0)) e parts.long;
+      heard = subst (λ (k : ℕ). AreHeard (λ j. true) 0 (batches k a.0) (first_words (length (batches k a.0)) parts.body)) e parts.heard;
     }
   where
     sixteenth : (n : ℕ) {l : ℕ} → l ≡ 16 * suc n → l / 16 ≡ suc n
@@ -85,12 +73,12 @@ record Later (listens : ℕ → Bool) (kept : Page → Bool) (lists : List (List
   hears : Hears listens kept lists later
 
 hears_first : (listens : ℕ → Bool) (f : ℕ) (kept : Page → Bool) (accepted : List Page) (lists : List (List Page)) (slots : List ℕ) (all later : List (List ℕ))
-    → AreUsable listens → IsKept listens f kept → All IsAcceptable accepted → IsSchedule accepted slots → FirstStretch slots all later → Hears listens kept lists later
+    → AreUsable listens → IsKept listens f kept → All IsAcceptable accepted → IsSchedule accepted slots → FirstStretch (λ k. true) slots all later → Hears listens kept lists later
     → Hears listens kept (accepted ∷ lists) all
 hears_first listens f kept accepted lists slots all later u k h s first rest =
     ap (λ (xs : List (List ℕ)). filter kept (pages_in listens xs)) first.first
     ∙ kept_in-cons listens kept first.words later
-    ∙ ap₂ (λ (x y : List Page). x ++ y) (schedule_pages listens accepted slots (stretch_slots first.words) u h s first.near f kept k) rest
+    ∙ ap₂ (λ (x y : List Page). x ++ y) (schedule_pages listens accepted slots (stretch_slots first.words) u h s first.heard f kept k) rest
     ∙ sym (filter-append kept accepted (joined lists))
 
 -- no page gives no bits
@@ -120,7 +108,7 @@ later_heard listens f kept ([] ∷ lists) bits u k h near =
 later_heard listens f kept ((page ∷ more) ∷ lists) bits u k h near =
     let a = one_air page more near.0 near.1 near.3 near.4 in
     let ih = later_heard listens f kept lists near.2 u k (All-tail (All IsAcceptable) (page ∷ more) lists h) near.5 in
-    let first = first_stretch 17 a.n a.slots a.body near.2 ih.later a.whole_batches a.near ih.after in
+    let first = first_stretch (λ k. true) 17 a.n a.slots a.body near.2 ih.later a.whole_batches a.long (λ k z. refl) a.heard ih.after in
     let whole : bits ≡ word_bits filler ++ (preamble_bits 17 ++ (a.body ++ near.2)) =
     near.6 ∙ ap (λ (xs : List Bool). xs ++ near.2) a.first-is ∙ append_assoc (preamble_bits 18) a.body near.2
     ∙ append_assoc (word_bits filler) (preamble_bits 17) (a.body ++ near.2) in
@@ -148,7 +136,7 @@ kept_heard listens f kept ([] ∷ lists) bits u k h near =
 kept_heard listens f kept ((page ∷ more) ∷ lists) bits u k h near =
     let a = one_air page more near.0 near.1 near.3 near.4 in
     let rest = later_heard listens f kept lists near.2 u k (All-tail (All IsAcceptable) (page ∷ more) lists h) near.5 in
-    let first = first_stretch 18 a.n a.slots a.body near.2 rest.later a.whole_batches a.near rest.after in
+    let first = first_stretch (λ k. true) 18 a.n a.slots a.body near.2 rest.later a.whole_batches a.long (λ k z. refl) a.heard rest.after in
     let whole : bits ≡ preamble_bits 18 ++ (a.body ++ near.2) =
     near.6 ∙ ap (λ (xs : List Bool). xs ++ near.2) a.first-is ∙ append_assoc (preamble_bits 18) a.body near.2 in
     ap (λ (xs : List Bool). filter kept (map with_text (heard listens xs))) whole

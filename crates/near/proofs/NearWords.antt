@@ -1,23 +1,46 @@
--- Bits near the bits of words, and their words.
-use Rattle.std.proofs.Common.{◌≡◌, ℕ, zero, suc, ◌+◌, ◌*◌, ◌^◌, ◌<◌, ◌≤◌, Bool, List, [], ◌∷◌, ◌++◌, length, length-append, length-drop, length-take, length-take-le, take, drop, replicate, arith, refl, sym, ◌∙◌, ap, take-append-drop}
+-- The words of a copy of a transmission, each near the word that was sent or not read.
+use Rattle.std.proofs.Common.{◌≡◌, ℕ, suc, ◌+◌, ◌*◌, ◌%◌, ◌^◌, ◌<◌, nat_le, Bool, true, false, List, [], ◌∷◌, ◌++◌, length, length-append, length-drop, length-take-le, take, drop, replicate, arith, refl, sym, ◌∙◌, ap, take-append-drop, add-zero, le-leb}
 use Rattle.std.proofs.lemmas.List.{take_at, drop_at, drop-drop}
 use Rattle.bits.specs.Bits.{word_bits, words_bits, number, dist}
 use Rattle.bits.proofs.Lengths.{length-bits_of, length-words_bits}
 use Rattle.bits.proofs.Bytes.{words_bits-append}
 use Rattle.bits.proofs.Numbers.{number-lt}
+use Rattle.bch31.specs.Fix.{HasNoFix}
 use Rattle.codeword.specs.Words.{filler}
 use Rattle.air.specs.Air.{preamble}
-use Rattle.air.specs.Near.{IsNearAir, word_behind}
+use Rattle.air.specs.Near.{IsNearAir, preamble_length, word_behind}
 use Rattle.receiver.specs.Stretches.{first_words}
 use Rattle.receiver.specs.Windows.{preamble_bits}
 use Rattle.receiver.proofs.Hunts.{word_bits-number}
 
--- ---- bits near the bits of words, cut 32 at a time
+-- ---- words as heard, one for each that was sent
 
--- each of the words is heard with at most two wrong bits
-unfoldable pub IsNearWords : List ℕ → List Bool → Type 0
-IsNearWords [] bits = bits ≡ []
-IsNearWords (u ∷ us) bits = (32 ≤ length bits) × (dist (take 32 bits) (word_bits u) ≤ 2) × IsNearWords us (drop 32 bits)
+-- A word as heard, at its number: it is within two bits of the word as sent exactly where it is marked so, and else has no fix.
+pub record HeardAt (near : ℕ → Bool) (k u w : ℕ) : Type 0 where
+  pub small : w < 2 ^ 32
+  pub is : near k ≡ nat_le (dist (word_bits w) (word_bits u)) 2
+  pub none : near k ≡ false → HasNoFix w
+
+-- the words as heard, from the number k on
+unfoldable pub AreHeard : (ℕ → Bool) → ℕ → List ℕ → List ℕ → Type 0
+AreHeard near k [] ws = ws ≡ []
+AreHeard near k (u ∷ us) [] = ⊥
+AreHeard near k (u ∷ us) (w ∷ ws) = HeardAt near k u w × AreHeard near (suc k) us ws
+
+-- marks that start one later
+pub heard_later : (near : ℕ → Bool) (k : ℕ) (us ws : List ℕ) → AreHeard near (suc k) us ws → AreHeard (λ j. near (suc j)) k us ws
+unfolding AreHeard
+heard_later near k [] ws h = h
+heard_later near k (u ∷ us) [] h = h
+heard_later near k (u ∷ us) (w ∷ ws) h = (record { small = h.0.small; is = h.0.is; none = h.0.none }, heard_later near (suc k) us ws h.1)
+
+pub length-heard : (near : ℕ → Bool) (k : ℕ) (us ws : List ℕ) → AreHeard near k us ws → length ws ≡ length us
+unfolding AreHeard
+length-heard near k [] ws h = ap length h
+length-heard near k (u ∷ us) [] h = absurd h
+length-heard near k (u ∷ us) (w ∷ ws) h = ap suc (length-heard near (suc k) us ws h.1)
+
+-- ---- bits cut into words
 
 -- the words of 32 bits, counted from 0
 abbrev pub word_at : ℕ → List Bool → List Bool
@@ -28,82 +51,41 @@ word_at-later k bits =
     let e : 32 * suc k ≡ 32 + 32 * k = omega arith in
     ap (λ (n : ℕ). take 32 (drop n bits)) e ∙ ap (take 32) (sym (drop-drop (32 * k) 32 bits))
 
-near_same : {a b c d : List Bool} → dist a b ≤ 2 → a ≡ c → b ≡ d → dist c d ≤ 2
-near_same h e f = rw (← e) (rw (← f) h)
+-- 32 bits as heard, at their number
+pub record BitsAt (near : ℕ → Bool) (k : ℕ) (sent heard : List Bool) : Type 0 where
+  pub is : near k ≡ nat_le (dist heard sent) 2
+  pub none : near k ≡ false → HasNoFix (number heard)
 
-no_bits : (bits : List Bool) → length bits ≡ 0 → bits ≡ []
-no_bits [] h = refl
-no_bits (b ∷ bits) h = absurd (omega arith)
+bits_moved : (near : ℕ → Bool) (j k : ℕ) (a b c d : List Bool) → BitsAt near j a b → j ≡ k → a ≡ c → b ≡ d → BitsAt near k c d
+bits_moved near j k a b c d h e f g = rw (← e) (rw (← f) (rw (← g) h))
 
--- bits as many as those of the words, that differ in at most two bits of each word
-pub near_words : (us : List ℕ) (bits : List Bool) → length bits ≡ 32 * length us
-    → ((k : ℕ) → dist (word_at k bits) (word_at k (words_bits us)) ≤ 2) → IsNearWords us bits
-unfolding IsNearWords
-near_words [] bits l h = no_bits bits l
-near_words (u ∷ us) bits l h =
+-- bits as many as those of the words are cut into words as heard
+cut : (near : ℕ → Bool) (k : ℕ) (us : List ℕ) (bits : List Bool) → length bits ≡ 32 * length us
+    → ((j : ℕ) → BitsAt near (k + j) (word_at j (words_bits us)) (word_at j bits)) → AreHeard near k us (first_words (length us) bits)
+unfolding AreHeard first_words
+cut near k [] bits l h = refl
+cut near k (u ∷ us) bits l h =
     let lu = length-bits_of 32 u in
     let first : word_at 0 (words_bits (u ∷ us)) ≡ word_bits u = take_at (word_bits u) (words_bits us) 32 lu in
     let behind : drop 32 (words_bits (u ∷ us)) ≡ words_bits us = drop_at (word_bits u) (words_bits us) 32 lu in
-    let near : dist (word_at 0 bits) (word_bits u) ≤ 2 = rw (← first) (h 0) in
+    let lt = length-take-le 32 bits (omega (arith, l)) in
+    let n = number-lt (take 32 bits) in
+    let small : number (take 32 bits) < 2 ^ 32 = rw lt at n in
+    let same = word_bits-number (take 32 bits) lt in
+    let here = bits_moved near (k + 0) k (word_at 0 (words_bits (u ∷ us))) (take 32 bits) (word_bits u) (take 32 bits) (h 0) (add-zero k) first refl in
     let ld = length-drop 32 bits in (
-      omega (arith, l),
-      near,
-      near_words us (drop 32 bits) (omega (arith, l, ld))
-          (λ k. near_same (h (suc k)) (word_at-later k bits) (word_at-later k (words_bits (u ∷ us)) ∙ ap (word_at k) behind)),
+      record {
+        small = small;
+        is = here.is ∙ ap (λ (xs : List Bool). nat_le (dist xs (word_bits u)) 2) (sym same);
+        none = here.none;
+      },
+      cut near (suc k) us (drop 32 bits) (omega (arith, l, ld))
+          (λ j. let e : k + suc j ≡ suc k + j = omega arith in
+          bits_moved near (k + suc j) (suc k + j) (word_at (suc j) (words_bits (u ∷ us))) (word_at (suc j) bits) (word_at j (words_bits us)) (word_at j (drop 32 bits))
+          (h (suc j)) e (word_at-later j (words_bits (u ∷ us)) ∙ ap (word_at j) behind) (word_at-later j bits)),
     )
 
--- and back
-pub near_words-at : (us : List ℕ) (bits : List Bool) → IsNearWords us bits → (k : ℕ) → dist (word_at k bits) (word_at k (words_bits us)) ≤ 2
-unfolding IsNearWords
-near_words-at [] bits h k =
-    let l = length-take 32 (drop (32 * k) bits) in
-    let d = length-drop (32 * k) bits in
-    let n = ap length h in
-    let none : word_at k bits ≡ [] = no_bits (word_at k bits) (omega arith) in
-    let z : dist [] (word_at k (words_bits [])) ≤ 2 = omega arith in
-    rw none z
-near_words-at (u ∷ us) bits h zero =
-    let first : word_at 0 (words_bits (u ∷ us)) ≡ word_bits u = take_at (word_bits u) (words_bits us) 32 (length-bits_of 32 u) in
-    rw first h.1
-near_words-at (u ∷ us) bits h (suc k) =
-    let behind : drop 32 (words_bits (u ∷ us)) ≡ words_bits us = drop_at (word_bits u) (words_bits us) 32 (length-bits_of 32 u) in
-    near_same (near_words-at us (drop 32 bits) h.2 k) (sym (word_at-later k bits))
-    (ap (word_at k) (sym behind) ∙ sym (word_at-later k (words_bits (u ∷ us))))
-
--- ---- their words
-
--- the words as heard are within two bits of the words as sent
-unfoldable pub AreNear : List ℕ → List ℕ → Type 0
-AreNear [] ws = ws ≡ []
-AreNear (u ∷ us) [] = ⊥
-AreNear (u ∷ us) (w ∷ ws) = (dist (word_bits w) (word_bits u) ≤ 2) × (w < 2 ^ 32) × AreNear us ws
-
-pub length-near_words : (us : List ℕ) (bits : List Bool) → IsNearWords us bits → length bits ≡ 32 * length us
-unfolding IsNearWords
-length-near_words [] bits h = ap length h ∙ omega arith
-length-near_words (u ∷ us) bits h =
-    let ih = length-near_words us (drop 32 bits) h.2 in
-    let l = length-drop 32 bits in
-    let a = h.0 in
-    omega arith
-
-pub first_words-near : (us : List ℕ) (bits : List Bool) → IsNearWords us bits → AreNear us (first_words (length us) bits)
-unfolding IsNearWords AreNear first_words
-first_words-near [] bits h = refl
-first_words-near (u ∷ us) bits h =
-    let l = length-take-le 32 bits h.0 in
-    let n = number-lt (take 32 bits) in
-    let small : number (take 32 bits) < 2 ^ 32 = rw l at n in
-    let same = word_bits-number (take 32 bits) l in
-    (rw same h.1, small, first_words-near us (drop 32 bits) h.2)
-
--- ---- what is heard of one transmission
-
--- a clean preamble, and a part that is near the words
-pub record PreambleAndWords (us : List ℕ) (heard : List Bool) : Type 0 where
-  pub body : List Bool
-  pub whole : heard ≡ preamble_bits 18 ++ body
-  pub near : IsNearWords us body
+-- ---- a copy of a transmission
 
 preamble_words : words_bits preamble ≡ preamble_bits 18
 unfolding preamble
@@ -119,37 +101,46 @@ word_behind-is k front rest l =
 air-parts : (us : List ℕ) → words_bits (preamble ++ us) ≡ preamble_bits 18 ++ words_bits us
 air-parts us = words_bits-append preamble us ∙ ap (λ (xs : List Bool). xs ++ words_bits us) preamble_words
 
--- The bits near a transmission are a clean preamble and bits near its further words.
-pub near_air-parts : (us : List ℕ) (heard : List Bool) → IsNearAir (words_bits (preamble ++ us)) heard → PreambleAndWords us heard
-near_air-parts us heard h =
+-- A copy of a transmission has its length and its preamble. Each word behind it is near the word as sent where it is marked so, and
+-- else has no fix, and every 17th, a sync word, is near.
+pub record IsCopy (near : ℕ → Bool) (air copy : List Bool) : Type 0 where
+  pub whole : length copy ≡ length air
+  pub preamble : take preamble_length copy ≡ take preamble_length air
+  pub words : (k : ℕ) → BitsAt near k (word_behind k air) (word_behind k copy)
+  pub syncs : (k : ℕ) → k % 17 ≡ 0 → near k ≡ true
+
+-- every word of what is heard near a transmission is near
+pub near_copy : (air heard : List Bool) → IsNearAir air heard → IsCopy (λ k. true) air heard
+near_copy air heard h = record {
+  whole = h.whole;
+  preamble = h.preamble;
+  words = λ k. record { is = sym (le-leb (dist (word_behind k heard) (word_behind k air)) 2 (h.words k)); none = λ far. cc };
+  syncs = λ k z. refl;
+}
+
+-- a clean preamble, and a part that is cut into words as heard
+pub record CopyParts (near : ℕ → Bool) (us : List ℕ) (copy : List Bool) : Type 0 where
+  pub body : List Bool
+  pub whole : copy ≡ preamble_bits 18 ++ body
+  pub long : length body ≡ 32 * length us
+  pub heard : AreHeard near 0 us (first_words (length us) body)
+
+pub copy_parts : (near : ℕ → Bool) (us : List ℕ) (copy : List Bool) → IsCopy near (words_bits (preamble ++ us)) copy → CopyParts near us copy
+copy_parts near us copy h =
     let lf : length (preamble_bits 18) ≡ 576 = length-preamble_bits in
     let air = air-parts us in
-    let clean : take 576 heard ≡ preamble_bits 18 = h.preamble ∙ ap (take 576) air ∙ take_at (preamble_bits 18) (words_bits us) 576 lf in
-    let whole : heard ≡ preamble_bits 18 ++ drop 576 heard = sym (take-append-drop 576 heard) ∙ ap (λ (xs : List Bool). xs ++ drop 576 heard) clean in
+    let clean : take 576 copy ≡ preamble_bits 18 = h.preamble ∙ ap (take 576) air ∙ take_at (preamble_bits 18) (words_bits us) 576 lf in
+    let whole : copy ≡ preamble_bits 18 ++ drop 576 copy = sym (take-append-drop 576 copy) ∙ ap (λ (xs : List Bool). xs ++ drop 576 copy) clean in
     let la = h.whole ∙ ap length air ∙ length-append (preamble_bits 18) (words_bits us) in
     let lu = length-words_bits us in
-    let ld = length-drop 576 heard in
+    let ld = length-drop 576 copy in
+    let long : length (drop 576 copy) ≡ 32 * length us = omega (arith, la, lu, ld, lf) in
     record {
-      body = drop 576 heard;
+      body = drop 576 copy;
       whole = whole;
-      near = near_words us (drop 576 heard) (omega (arith, la, lu, ld, lf))
-          (λ k. near_same (h.words k) (ap (word_behind k) whole ∙ word_behind-is k (preamble_bits 18) (drop 576 heard) lf)
-          (ap (word_behind k) air ∙ word_behind-is k (preamble_bits 18) (words_bits us) lf));
-    }
-
--- and back
-pub near_air-whole : (us : List ℕ) (heard : List Bool) → PreambleAndWords us heard → IsNearAir (words_bits (preamble ++ us)) heard
-near_air-whole us heard p =
-    let lf : length (preamble_bits 18) ≡ 576 = length-preamble_bits in
-    let air = air-parts us in
-    let la = ap length air ∙ length-append (preamble_bits 18) (words_bits us) in
-    let lh = ap length p.whole ∙ length-append (preamble_bits 18) p.body in
-    let lu = length-words_bits us in
-    let lb = length-near_words us p.body p.near in
-    record {
-      whole = omega arith;
-      preamble = ap (take 576) p.whole ∙ take_at (preamble_bits 18) p.body 576 lf
-          ∙ sym (ap (take 576) air ∙ take_at (preamble_bits 18) (words_bits us) 576 lf);
-      words = λ k. near_same (near_words-at us p.body p.near k) (sym (ap (word_behind k) p.whole ∙ word_behind-is k (preamble_bits 18) p.body lf))
-          (sym (ap (word_behind k) air ∙ word_behind-is k (preamble_bits 18) (words_bits us) lf));
+      long = long;
+      heard = cut near 0 us (drop 576 copy) long (λ j. bits_moved near j (0 + j) (word_behind j (words_bits (preamble ++ us))) (word_behind j copy)
+          (word_at j (words_bits us)) (word_at j (drop 576 copy)) (h.words j) (omega arith)
+          (ap (word_behind j) air ∙ word_behind-is j (preamble_bits 18) (words_bits us) lf)
+          (ap (word_behind j) whole ∙ word_behind-is j (preamble_bits 18) (drop 576 copy) lf));
     }

@@ -10,8 +10,8 @@ use Rattle.receiver.specs.Registers.{last_32}
 use Rattle.receiver.specs.Stretches.{is_sync, after_sync}
 use Rattle.receiver.specs.Heard.{HeardPage}
 use Rattle.receiver.specs.Locks.{lock_of, Hunts, LockHolds}
-use Rattle.receiver.specs.Fronts.{FrontEnd, Hunt, Locking, front_end_of, FrontStandsFor, HasUnderWay}
-use Rattle.receiver.specs.FrontSteps.{Shows, HearsPage}
+use Rattle.receiver.specs.Fronts.{FrontEnd, Hunt, Locking, front_end_of, FrontIsAt, FrontStandsFor, HasUnderWay}
+use Rattle.receiver.specs.FrontSteps.{Shows, HearsPage, FrontGoesOn}
 use Rattle.receiver.specs.Steps.{HuntsOn, Finds, HuntsThrough}
 use Rattle.wires.specs.Pieces.{taken_of}
 use Rattle.wires.proofs.Pieces.{taken_is, last_bits, low_bits}
@@ -38,6 +38,11 @@ pub hears_fed : (front after : FrontEnd) (event : FrontEvent) (more : List Bool)
     → HearsPage listens page after event bits (bits ++ more)
 hears_fed front after event more fed was is listens page bits here =
     hears front after event bits (bits ++ more) (fed bits) listens page (subst (λ (f : FrontEnd). HasUnderWay listens f page bits) (sym is) here)
+
+pub goes_fed : (front after : FrontEnd) (event : FrontEvent) (more : List Bool) → Feeds front after event more
+    → (was : FrontEnd) → front ≡ was → (bits : List Bool) (before : List (List ℕ)) (words : Option (List ℕ)) → FrontIsAt was bits before words
+    → FrontGoesOn after event before words (bits ++ more)
+goes_fed front after event more fed was is bits before words here = fed bits before words (subst (λ (f : FrontEnd). FrontIsAt f bits before words) (sym is) here)
 
 -- ---- a hunt
 

@@ -7,31 +7,12 @@ use Rattle.receiver.specs.declared.front.HuntStep.TheVariants.{Still as HuntStil
 use Rattle.receiver.specs.declared.front.LockStep.TheVariants.{Still as LockStill, Slot as LockSlot, Batch as LockBatch, Lost as LockLost}
 use Rattle.receiver.specs.declared.front.FrontEvent.{FrontEvent}
 use Rattle.receiver.specs.declared.front.FrontEvent.TheVariants.{Still, Batch, Slot, Lost}
+use Rattle.receiver.specs.FrontSteps.{HasSyncWord, FrontGoesOn}
 use Rattle.receiver.specs.Steps.{HuntGoesOn, LockGoesOn}
 use Rattle.receiver.proofs.Fronts.{lost_is_past}
 
--- a lock begins, or has one more word at a sync place
-abbrev pub Begins : Option (List ℕ) → Option (List ℕ) → Type 0
-Begins None after = after ≡ Some []
-Begins (Some words) after = (word : ℕ) × (after ≡ Some (words ++ word ∷ [])) × (length words % 17 ≡ 16)
-
--- how an event takes these stretches and words of a lock to others
-abbrev pub Moves : FrontEvent → List (List ℕ) → Option (List ℕ) → List (List ℕ) → Option (List ℕ) → Type 0
-Moves Still before words before_after words_after = (before_after ≡ before) × (words_after ≡ words)
-Moves Batch before words before_after words_after = (before_after ≡ before) × Begins words words_after
-Moves (Slot place word) before words before_after words_after =
-    (before_after ≡ before) × (lock_words : List ℕ) × (words ≡ Some lock_words) × (words_after ≡ Some (lock_words ++ word ∷ [])) × (length lock_words % 17 ≡ place) × (place < 16)
-Moves Lost before words before_after words_after = (lock_words : List ℕ) × (words ≡ Some lock_words) × (before_after ≡ before ++ lock_words ∷ []) × (words_after ≡ None)
-
--- where the front end is after an event
-pub record GoesOn (front : FrontEnd) (event : FrontEvent) (before : List (List ℕ)) (words : Option (List ℕ)) (bits : List Bool) : Type 0 where
-  pub before_after : List (List ℕ)
-  pub words_after : Option (List ℕ)
-  pub at : FrontIsAt front bits before_after words_after
-  pub moves : Moves event before words before_after words_after
-
 pub hunt_still : (h k : List Bool) (more : List Bool) → ((bits : List Bool) → Hunts h bits → HuntGoesOn (HuntStill k) (bits ++ more))
-    → (bits : List Bool) (before : List (List ℕ)) (words : Option (List ℕ)) → FrontIsAt (Hunt h) bits before words → GoesOn (Hunt k) Still before words (bits ++ more)
+    → (bits : List Bool) (before : List (List ℕ)) (words : Option (List ℕ)) → FrontIsAt (Hunt h) bits before words → FrontGoesOn (Hunt k) Still before words (bits ++ more)
 hunt_still h k more step bits before words at =
     let a = at.0 in
     let now : HuntsAt k (bits ++ more) before = record {
@@ -43,12 +24,12 @@ hunt_still h k more step bits before words at =
     } in
     record { before_after = before; words_after = words; at = (now, at.1); moves = (refl, refl) }
 
-begins_after : (words : Option (List ℕ)) → words ≡ None → Begins words (Some [])
+begins_after : (words : Option (List ℕ)) → words ≡ None → HasSyncWord words (Some [])
 begins_after None h = refl
 begins_after (Some ws) h = cc
 
 pub hunt_found : (h : List Bool) (l : Lock) (more : List Bool) → ((bits : List Bool) → Hunts h bits → HuntGoesOn (Found l) (bits ++ more))
-    → (bits : List Bool) (before : List (List ℕ)) (words : Option (List ℕ)) → FrontIsAt (Hunt h) bits before words → GoesOn (Locking l) Batch before words (bits ++ more)
+    → (bits : List Bool) (before : List (List ℕ)) (words : Option (List ℕ)) → FrontIsAt (Hunt h) bits before words → FrontGoesOn (Locking l) Batch before words (bits ++ more)
 unfolding first_words
 hunt_found h l more step bits before words at =
     let a = at.0 in
@@ -80,19 +61,19 @@ further l m more bits before words after a holds is = record {
 }
 
 pub lock_still : (l m : Lock) (more : List Bool) → ((bits : List Bool) → LockHolds l bits → LockGoesOn (LockStill m) bits (bits ++ more))
-    → (bits : List Bool) (before : List (List ℕ)) (words : Option (List ℕ)) → FrontIsAt (Locking l) bits before words → GoesOn (Locking m) Still before words (bits ++ more)
+    → (bits : List Bool) (before : List (List ℕ)) (words : Option (List ℕ)) → FrontIsAt (Locking l) bits before words → FrontGoesOn (Locking m) Still before words (bits ++ more)
 lock_still l m more step bits before words at =
     let a = at.1 in
     let s = step a.rest a.holds in
     let now = further l m more bits before at.0 at.0 a s.0 (a.words-is ∙ sym s.1) in
     record { before_after = before; words_after = words; at = (at.0, now, at.2); moves = (refl, refl) }
 
-batch_after : (words : Option (List ℕ)) (ws : List ℕ) (w : ℕ) → words ≡ Some ws → length ws % 17 ≡ 16 → Begins words (Some (ws ++ w ∷ []))
+batch_after : (words : Option (List ℕ)) (ws : List ℕ) (w : ℕ) → words ≡ Some ws → length ws % 17 ≡ 16 → HasSyncWord words (Some (ws ++ w ∷ []))
 batch_after None ws w h p = cc
 batch_after (Some vs) ws w h p = let e : vs ≡ ws = cc in (w, ap (λ (xs : List ℕ). Some (xs ++ w ∷ [])) (sym e), ap (λ (xs : List ℕ). length xs % 17) e ∙ p)
 
 pub lock_batch : (l m : Lock) (more : List Bool) → ((bits : List Bool) → LockHolds l bits → LockGoesOn (LockBatch m) bits (bits ++ more))
-    → (bits : List Bool) (before : List (List ℕ)) (words : Option (List ℕ)) → FrontIsAt (Locking l) bits before words → GoesOn (Locking m) Batch before words (bits ++ more)
+    → (bits : List Bool) (before : List (List ℕ)) (words : Option (List ℕ)) → FrontIsAt (Locking l) bits before words → FrontGoesOn (Locking m) Batch before words (bits ++ more)
 lock_batch l m more step bits before words at =
     let a = at.1 in
     let s = step a.rest a.holds in
@@ -105,7 +86,7 @@ lock_batch l m more step bits before words at =
     }
 
 pub lock_slot : (l m : Lock) (place w : ℕ) (more : List Bool) → ((bits : List Bool) → LockHolds l bits → LockGoesOn (LockSlot m place w) bits (bits ++ more))
-    → (bits : List Bool) (before : List (List ℕ)) (words : Option (List ℕ)) → FrontIsAt (Locking l) bits before words → GoesOn (Locking m) (Slot place w) before words (bits ++ more)
+    → (bits : List Bool) (before : List (List ℕ)) (words : Option (List ℕ)) → FrontIsAt (Locking l) bits before words → FrontGoesOn (Locking m) (Slot place w) before words (bits ++ more)
 lock_slot l m place w more step bits before words at =
     let a = at.1 in
     let s = step a.rest a.holds in
@@ -118,7 +99,7 @@ lock_slot l m place w more step bits before words at =
     }
 
 pub lock_lost : (l : Lock) (h : List Bool) (more : List Bool) → ((bits : List Bool) → LockHolds l bits → LockGoesOn (LockLost h) bits (bits ++ more))
-    → (bits : List Bool) (before : List (List ℕ)) (words : Option (List ℕ)) → FrontIsAt (Locking l) bits before words → GoesOn (Hunt h) Lost before words (bits ++ more)
+    → (bits : List Bool) (before : List (List ℕ)) (words : Option (List ℕ)) → FrontIsAt (Locking l) bits before words → FrontGoesOn (Hunt h) Lost before words (bits ++ more)
 lock_lost l h more step bits before words at =
     let a = at.1 in
     let s = step a.rest a.holds in

@@ -3,11 +3,13 @@ use Rattle.std.proofs.Common.{◌≡◌, ℕ, zero, suc, ◌≤◌, ◌⊎◌, i
 use Rattle.std.specs.Prelude.{map}
 use Rattle.std.proofs.lemmas.Grind.{flat_map-append}
 use Rattle.std.proofs.lemmas.List.{map-append}
+use Rattle.codeword.specs.declared.kinds.WordKind.{WordKind}
+use Rattle.codeword.specs.Kinds.{kind_of}
 use Rattle.page_text.specs.Page.{Page}
 use Rattle.wires.specs.Fronts.{Grows, IsFront}
 use Rattle.wires.proofs.Fronts.{front_append, front_behind, front_then, grows_by_one}
 use Rattle.receiver.specs.Growing.{EntriesGrow, PagesGrow, ShownGrow}
-use Rattle.receiver.specs.Heard.{HeardPage, heard, pages_from, stretch_pages, with_text}
+use Rattle.receiver.specs.Heard.{HeardPage, heard, pages_from, kinds_in, stretch_pages, with_text}
 use Rattle.receiver.specs.Shown.{shown, shown_page}
 use Rattle.receiver.specs.Slots.{Batch, TableEntry, entries_from, stretch_slots, stretch_entries}
 use Rattle.receiver.specs.Stretches.{after_loss, after_sync, held_from, held_with, held_words, is_sync, is_sync_place, later_with, loss_from, loss_with, stretches, stretches_with, words_of_bits}
@@ -93,8 +95,8 @@ slots_of-grow = grows_by_one stretch_slots (λ ws w. record { rest = _; is = slo
 stretch_pages-grow : (listens : ℕ → Bool) → Grows (stretch_pages listens)
 stretch_pages-grow listens xs ys =
     let s = slots_of-grow xs ys in
-    subst (λ (zs : List ℕ). IsFront (stretch_pages listens xs) (pages_from listens 0 zs)) (sym s.is)
-    (grows_by_one (pages_from listens 0) (λ ws w. record { rest = _; is = pages_from-push listens 0 ws w }) (stretch_slots xs) s.rest)
+    subst (λ (ks : List (Option WordKind)). IsFront (stretch_pages listens xs) (pages_from listens 0 ks)) (sym (ap (map kind_of) s.is ∙ map-append kind_of (stretch_slots xs) s.rest))
+    (grows_by_one (pages_from listens 0) (λ ws w. record { rest = _; is = pages_from-push listens 0 ws w }) (kinds_in xs) (map kind_of s.rest))
 
 stretch_entries-grow : Grows stretch_entries
 stretch_entries-grow xs ys =

@@ -1,21 +1,21 @@
 -- What a event of a front end adds to what is heard.
-use Rattle.std.proofs.Common.{◌≡◌, ℕ, ◌+◌, ◌*◌, ◌/◌, ◌%◌, ◌<◌, Bool, true, false, List, [], ◌∷◌, ◌++◌, length, length-append, flat_map, Option, Some, None, arith, refl, sym, ◌∙◌, ap, ap₂, append_assoc, append-nil, zero-add, eq-eqb, ne_eqb}
+use Rattle.std.proofs.Common.{◌≡◌, ℕ, ◌+◌, ◌*◌, ◌/◌, ◌%◌, ◌<◌, Bool, true, false, List, [], ◌∷◌, ◌++◌, length, length-append, flat_map, map, Option, Some, None, arith, refl, sym, ◌∙◌, ap, ap₂, append_assoc, append-nil, zero-add, eq-eqb, ne_eqb}
+use Rattle.std.proofs.lemmas.List.{map-append, length-map}
 use Rattle.bits.proofs.Bytes.{flat_map-append}
 use Rattle.codeword.specs.declared.kinds.WordKind.{WordKind}
 use Rattle.codeword.specs.declared.kinds.WordKind.TheVariants.{Address, Message}
 use Rattle.codeword.specs.Kinds.{kind_of}
 use Rattle.receiver.specs.Stretches.{is_sync_place}
 use Rattle.receiver.specs.Slots.{TableEntry, Batch as BatchEntry, entry_with, slots_from, stretch_slots, entries_from, stretch_entries}
-use Rattle.receiver.specs.Heard.{HeardPage, pages_from, stretch_pages}
+use Rattle.receiver.specs.Heard.{HeardPage, pages_from, kinds_in, stretch_pages}
 use Rattle.receiver.specs.UnderWay.{open_from, open_if, open_after, completed}
 use Rattle.receiver.specs.Fronts.{FrontEnd, FrontIsAt, FrontStandsFor, HasUnderWay, page_under_way}
 use Rattle.receiver.specs.declared.front.FrontEvent.{FrontEvent}
 use Rattle.receiver.specs.declared.front.FrontEvent.TheVariants.{Still, Batch, Slot, Lost}
-use Rattle.receiver.specs.FrontSteps.{table_entry_of, page_after, completed_by, slots_by, Shows, HearsPage}
+use Rattle.receiver.specs.FrontSteps.{table_entry_of, page_after, completed_by, slots_by, Shows, HearsPage, HasSyncWord, FrontMoves, FrontGoesOn}
 use Rattle.receiver.proofs.Slots.{slots_of-push, entries_from-push, slot_place}
 use Rattle.receiver.proofs.Pages.{pages_from-push, open_from-push}
 use Rattle.receiver.proofs.Fronts.{so_far, front_stretches}
-use Rattle.receiver.proofs.FrontSteps.{Moves, GoesOn}
 
 -- ---- what an event adds to a list that is made of the stretches one by one
 
@@ -38,7 +38,7 @@ longer_stretch f before words after more h =
     ∙ ap (λ xs. xs ++ more) (sym (one_stretch f before words))
 
 moves_add : {X : Type 0} (f : List ℕ → List X) (event : FrontEvent) (before : List (List ℕ)) (words : Option (List ℕ)) (before_after : List (List ℕ)) (words_after : Option (List ℕ)) (more : List X)
-    → Moves event before words before_after words_after → Adds f event words more
+    → FrontMoves event before words before_after words_after → Adds f event words more
     → flat_map f (so_far before_after words_after) ≡ flat_map f (so_far before words) ++ more
 moves_add f Still before words b2 w2 more m a =
     ap₂ (λ x y. flat_map f (so_far x y)) m.0 m.1 ∙ sym (append-nil (flat_map f (so_far before words))) ∙ ap (λ xs. flat_map f (so_far before words) ++ xs) (sym a)
@@ -103,15 +103,22 @@ length-slot_of Lost = refl
 
 -- ---- the pages
 
+-- a word at a sync place says nothing more, and one in a slot what it says
+pub said_sync : (words : List ℕ) (word : ℕ) → length words % 17 ≡ 16 → kinds_in (words ++ word ∷ []) ≡ kinds_in words
+said_sync words word p = ap (map kind_of) (slots_of-push words word true (at_sync words p) ∙ append-nil (stretch_slots words))
+
+pub said_slot : (words : List ℕ) (word place : ℕ) → length words % 17 ≡ place → place < 16 → kinds_in (words ++ word ∷ []) ≡ kinds_in words ++ kind_of word ∷ []
+said_slot words word place p q = ap (map kind_of) (slots_of-push words word false (at_slot words place p q)) ∙ map-append kind_of (stretch_slots words) (word ∷ [])
+
 adds_page : (listens : ℕ → Bool) (page : Option HeardPage) (event : FrontEvent) (words : Option (List ℕ)) → page ≡ page_under_way listens words
     → Adds (stretch_pages listens) event words (completed_by page event)
 unfolding slots_from pages_from
 adds_page listens page Still words h = refl
 adds_page listens page Batch None h = refl
 adds_page listens page Batch (Some words) h = λ word p.
-    ap (pages_from listens 0) (slots_of-push words word true (at_sync words p) ∙ append-nil (stretch_slots words)) ∙ sym (append-nil (stretch_pages listens words))
+    ap (pages_from listens 0) (said_sync words word p) ∙ sym (append-nil (stretch_pages listens words))
 adds_page listens page (Slot place word) words h = λ lock_words is p q.
-    ap (pages_from listens 0) (slots_of-push lock_words word false (at_slot lock_words place p q)) ∙ pages_from-push listens 0 (stretch_slots lock_words) word
+    ap (pages_from listens 0) (said_slot lock_words word place p q) ∙ pages_from-push listens 0 (kinds_in lock_words) (kind_of word)
     ∙ ap (λ (o : Option HeardPage). stretch_pages listens lock_words ++ completed o (kind_of word)) (sym (h ∙ ap (page_under_way listens) is))
 adds_page listens page Lost words h = refl
 
@@ -123,31 +130,31 @@ open_after-place listens p q None (Some (Message g)) h = refl
 open_after-place listens p q (Some page) (Some (Message g)) h = refl
 
 begun : (listens : ℕ → Bool) (page : Option HeardPage) (words words_after : Option (List ℕ)) → page ≡ page_under_way listens words
-    → Rattle.receiver.proofs.FrontSteps.Begins words words_after → page ≡ page_under_way listens words_after
+    → HasSyncWord words words_after → page ≡ page_under_way listens words_after
 unfolding slots_from open_from
 begun listens page None after h b = h ∙ ap (page_under_way listens) (sym b)
 begun listens page (Some words) after h b =
-    h ∙ ap (open_from listens 0) (sym (slots_of-push words b.0 true (at_sync words b.2) ∙ append-nil (stretch_slots words))) ∙ ap (page_under_way listens) (sym b.1)
+    h ∙ ap (open_from listens 0) (sym (said_sync words b.0 b.2)) ∙ ap (page_under_way listens) (sym b.1)
 
 moves_page : (listens : ℕ → Bool) (page : Option HeardPage) (event : FrontEvent) (before : List (List ℕ)) (words : Option (List ℕ)) (before_after : List (List ℕ)) (words_after : Option (List ℕ))
-    → Moves event before words before_after words_after → page ≡ page_under_way listens words → page_after listens page event ≡ page_under_way listens words_after
+    → FrontMoves event before words before_after words_after → page ≡ page_under_way listens words → page_after listens page event ≡ page_under_way listens words_after
 moves_page listens page Still before words b2 w2 m h = h ∙ ap (page_under_way listens) (sym m.1)
 moves_page listens page Batch before words b2 w2 m h = begun listens page words w2 h m.1
 moves_page listens page (Slot place word) before words b2 w2 m h =
-    let slots = stretch_slots m.1 in
-    let place16 : (0 + length slots) % 16 ≡ place % 16 =
-    ap (λ (n : ℕ). n % 16) (zero-add (length slots)) ∙ slot_place m.1 (let p = m.4 in let q = m.5 in omega arith) ∙ (let p = m.4 in let q = m.5 in omega arith) in
+    let kinds = kinds_in m.1 in
+    let place16 : (0 + length kinds) % 16 ≡ place % 16 =
+    ap (λ (n : ℕ). n % 16) (zero-add (length kinds) ∙ length-map (stretch_slots m.1) kind_of) ∙ slot_place m.1 (let p = m.4 in let q = m.5 in omega arith) ∙ (let p = m.4 in let q = m.5 in omega arith) in
     ap (λ (o : Option HeardPage). open_after listens place o (kind_of word)) (h ∙ ap (page_under_way listens) m.2)
-    ∙ sym (open_after-place listens (0 + length slots) place (open_from listens 0 slots) (kind_of word) place16)
-    ∙ sym (open_from-push listens 0 slots word)
-    ∙ ap (open_from listens 0) (sym (slots_of-push m.1 word false (at_slot m.1 place m.4 m.5)))
+    ∙ sym (open_after-place listens (0 + length kinds) place (open_from listens 0 kinds) (kind_of word) place16)
+    ∙ sym (open_from-push listens 0 kinds (kind_of word))
+    ∙ ap (open_from listens 0) (sym (said_slot m.1 word place m.4 m.5))
     ∙ ap (page_under_way listens) (sym m.3)
 moves_page listens page Lost before words b2 w2 m h = ap (page_under_way listens) (sym m.3)
 
 -- ---- each event
 
 abbrev pub AlwaysGoesOn : FrontEnd → FrontEnd → FrontEvent → List Bool → List Bool → Type 0
-AlwaysGoesOn front after event old bits = (before : List (List ℕ)) (words : Option (List ℕ)) → FrontIsAt front old before words → GoesOn after event before words bits
+AlwaysGoesOn front after event old bits = (before : List (List ℕ)) (words : Option (List ℕ)) → FrontIsAt front old before words → FrontGoesOn after event before words bits
 
 pub shows : (front after : FrontEnd) (event : FrontEvent) (old bits : List Bool) → AlwaysGoesOn front after event old bits → FrontStandsFor front old → Shows after event old bits
 shows front after event old bits goes s =

@@ -1,11 +1,12 @@
 -- Nothing is complete before the last of the bits that a front end takes of a piece.
-use Rattle.std.proofs.Common.{◌≡◌, ℕ, ◌-◌, ◌⊎◌, inl, inr, Bool, true, false, List, [], ◌∷◌, ◌++◌, length, length-append, length-drop, drop, Option, Some, None, arith, refl, sym, ◌∙◌, ap, append_assoc, append-nil}
+use Rattle.std.proofs.Common.{◌≡◌, ℕ, ◌-◌, ◌⊎◌, inl, inr, Bool, true, false, List, [], ◌∷◌, ◌++◌, length, length-append, length-drop, drop, Option, Some, None, arith, refl, sym, ◌∙◌, ap, subst, append_assoc, append-nil}
 use Rattle.receiver.specs.Registers.{last_32}
 use Rattle.receiver.specs.Stretches.{after_sync}
 use Rattle.receiver.specs.Slots.{entries}
 use Rattle.receiver.specs.Heard.{heard}
 use Rattle.receiver.specs.Locks.{Hunts}
-use Rattle.receiver.specs.Fronts.{FrontEnd, front_end_of, FrontStandsFor, HasUnderWay, page_under_way}
+use Rattle.receiver.specs.Fronts.{FrontEnd, front_end_of, FrontIsAt, FrontStandsFor, HasUnderWay, page_under_way}
+use Rattle.receiver.specs.FrontSteps.{StaysAt}
 use Rattle.receiver.specs.Last.{IsShorterFront}
 use Rattle.receiver.specs.Listeners.{Listener, StandsFor, is_one_of}
 use Rattle.receiver.specs.Steps.{HuntsThrough}
@@ -13,7 +14,7 @@ use Rattle.receiver.specs.declared.front.FrontEvent.TheVariants.{Still}
 use Rattle.wires.specs.Fronts.{IsFront}
 use Rattle.wires.specs.Pieces.{taken_of}
 use Rattle.wires.proofs.Pieces.{taken_twice}
-use Rattle.receiver.proofs.Feeding.{Feeds, Joined, shows_fed, hears_fed, still_hunting, still_locked}
+use Rattle.receiver.proofs.Feeding.{Feeds, Joined, shows_fed, hears_fed, goes_fed, still_hunting, still_locked}
 use Rattle.receiver.proofs.Growing.{heard-grow}
 use Rattle.receiver.proofs.Hunts.{last_32-push}
 use Rattle.receiver.proofs.Pieces.{Fed}
@@ -103,10 +104,21 @@ no_page front taken waits was is listens bits more here s =
     let under : HasUnderWay listens was page bits = record { before = here.before; words = here.words; at = here.at; page-is = refl } in
     (hears_fed front w.0 Still more w.1 was is listens page bits under).pages ∙ append-nil (heard listens bits)
 
+pub still_there : (front : FrontEnd) (taken : List Bool) → Waits front taken → (was : FrontEnd) → front ≡ was
+    → (bits more : List Bool) (before : List (List ℕ)) (words : Option (List ℕ)) → FrontIsAt was bits before words → IsShorterFront more taken
+    → StaysAt (bits ++ more) before words
+still_there front taken waits was is bits more before words here s =
+    let w = waits more s in
+    let g = goes_fed front w.0 Still more w.1 was is bits before words here in (
+      w.0,
+      subst (λ (found : List (List ℕ)). FrontIsAt w.0 (bits ++ more) found words) g.moves.0
+          (subst (λ (o : Option (List ℕ)). FrontIsAt w.0 (bits ++ more) g.before_after o) g.moves.1 g.at),
+    )
+
 -- ---- a listener
 
 -- a front of two lists is a front of the first, or goes on in the second
-front_cases : (front first second rest : List Bool) (b : Bool) → front ++ b ∷ rest ≡ first ++ second
+pub front_cases : (front first second rest : List Bool) (b : Bool) → front ++ b ∷ rest ≡ first ++ second
     → IsFront front first ⊎ ((more : List Bool) × (front ≡ first ++ more) × IsShorterFront more second)
 front_cases front [] second rest b e = inr (front, refl, record { next = b; rest = rest; is = sym e })
 front_cases [] (x ∷ first) second rest b e = inl (record { rest = x ∷ first; is = refl })

@@ -4,7 +4,6 @@ use Rattle.std.proofs.lemmas.Bool.{cases_Bool, leb-true, leb-false, ltb-true, lt
 use Rattle.codeword.specs.declared.functions.Function.{Function}
 use Rattle.codeword.specs.declared.kinds.WordKind.{WordKind}
 use Rattle.codeword.specs.declared.kinds.WordKind.TheVariants.{Address, Message}
-use Rattle.codeword.specs.Kinds.{kind_of}
 use Rattle.page_text.specs.declared.limits.TheConstants.{MOST_GROUPS}
 use Rattle.codeword.specs.Capcodes.{capcode_at}
 use Rattle.receiver.specs.Heard.{HeardPage, groups_with, groups_to_address, page_if, page_with, pages_from}
@@ -38,12 +37,12 @@ to_address_last None = refl
 to_address_last (Some (Message g)) = refl
 to_address_last (Some (Address h f)) = refl
 
-groups_to_address-push : (ws : List ℕ) (w : ℕ) → groups_to_address (ws ++ w ∷ []) ≡ first_groups (groups_to_address ws) (ended (kind_of w) (all_groups ws))
+groups_to_address-push : (ws : List (Option WordKind)) (w : Option WordKind) → groups_to_address (ws ++ w ∷ []) ≡ first_groups (groups_to_address ws) (ended w (all_groups ws))
 unfolding groups_to_address all_groups
-groups_to_address-push [] w = to_address_last (kind_of w)
+groups_to_address-push [] w = to_address_last w
 groups_to_address-push (v ∷ ws) w =
-    ap (groups_with (kind_of v)) (groups_to_address-push ws w)
-    ∙ to_address_step (kind_of v) (kind_of w) (groups_to_address ws) (all_groups ws)
+    ap (groups_with v) (groups_to_address-push ws w)
+    ∙ to_address_step v w (groups_to_address ws) (all_groups ws)
 
 abbrev grown : Option WordKind → Option (List ℕ) → Option (List ℕ)
 grown None all = None
@@ -67,10 +66,10 @@ all_last None = refl
 all_last (Some (Address h f)) = refl
 all_last (Some (Message g)) = refl
 
-all_groups-push : (ws : List ℕ) (w : ℕ) → all_groups (ws ++ w ∷ []) ≡ grown (kind_of w) (all_groups ws)
+all_groups-push : (ws : List (Option WordKind)) (w : Option WordKind) → all_groups (ws ++ w ∷ []) ≡ grown w (all_groups ws)
 unfolding all_groups
-all_groups-push [] w = all_last (kind_of w)
-all_groups-push (v ∷ ws) w = ap (messages_with (kind_of v)) (all_groups-push ws w) ∙ all_step (kind_of v) (kind_of w) (all_groups ws)
+all_groups-push [] w = all_last w
+all_groups-push (v ∷ ws) w = ap (messages_with v) (all_groups-push ws w) ∙ all_step v w (all_groups ws)
 
 -- ---- where all are message words, no page is complete or under way
 
@@ -80,12 +79,12 @@ message_first (Some (Address a f)) all gs h = absurd (let e : None ≡ Some gs =
 message_first (Some (Message g)) None gs h = absurd (let e : None ≡ Some gs = h in cc)
 message_first (Some (Message g)) (Some hs) gs h = (g, hs, refl, refl)
 
-pub only_messages : (listens : ℕ → Bool) (place : ℕ) (ws : List ℕ) (gs : List ℕ) → all_groups ws ≡ Some gs
+pub only_messages : (listens : ℕ → Bool) (place : ℕ) (ws : List (Option WordKind)) (gs : List ℕ) → all_groups ws ≡ Some gs
     → (pages_from listens place ws ≡ []) × (open_from listens place ws ≡ None) × (groups_to_address ws ≡ None)
 unfolding all_groups pages_from open_from groups_to_address
 only_messages listens place [] gs h = (refl, refl, refl)
 only_messages listens place (w ∷ ws) gs h =
-    let m = message_first (kind_of w) (all_groups ws) gs h in
+    let m = message_first w (all_groups ws) gs h in
     let ih = only_messages listens (suc place) ws m.1 m.3 in (
       ap (λ (k : Option WordKind). page_with listens place k (groups_to_address ws) ++ pages_from listens (suc place) ws) m.2 ∙ ih.0,
       ap (λ (k : Option WordKind). first_some (open_with listens place k (all_groups ws)) (open_from listens (suc place) ws)) m.2 ∙ ih.1,
@@ -148,18 +147,18 @@ pages_step listens place k last (Some gs) to pages page only =
     let p2 = o.2 in
     rw (p0, p1, p2) (last_page listens place k last gs)
 
-pub pages_from-push : (listens : ℕ → Bool) (place : ℕ) (ws : List ℕ) (w : ℕ)
-    → pages_from listens place (ws ++ w ∷ []) ≡ pages_from listens place ws ++ completed (open_from listens place ws) (kind_of w)
+pub pages_from-push : (listens : ℕ → Bool) (place : ℕ) (ws : List (Option WordKind)) (w : Option WordKind)
+    → pages_from listens place (ws ++ w ∷ []) ≡ pages_from listens place ws ++ completed (open_from listens place ws) w
 unfolding pages_from open_from groups_to_address
-pages_from-push listens place [] w = append-nil (page_with listens place (kind_of w) None) ∙ alone (kind_of w)
+pages_from-push listens place [] w = append-nil (page_with listens place w None) ∙ alone w
   where
     alone : (k : Option WordKind) → page_with listens place k None ≡ []
     alone None = refl
     alone (Some (Message g)) = refl
     alone (Some (Address h f)) = refl
 pages_from-push listens place (v ∷ ws) w =
-    ap₂ (λ (x : Option (List ℕ)) (ys : List HeardPage). page_with listens place (kind_of v) x ++ ys) (groups_to_address-push ws w) (pages_from-push listens (suc place) ws w)
-    ∙ pages_step listens place (kind_of v) (kind_of w) (all_groups ws) (groups_to_address ws) (pages_from listens (suc place) ws) (open_from listens (suc place) ws)
+    ap₂ (λ (x : Option (List ℕ)) (ys : List HeardPage). page_with listens place v x ++ ys) (groups_to_address-push ws w) (pages_from-push listens (suc place) ws w)
+    ∙ pages_step listens place v w (all_groups ws) (groups_to_address ws) (pages_from listens (suc place) ws) (open_from listens (suc place) ws)
     (λ gs e. only_messages listens (suc place) ws gs e)
 
 length_one_more : (gs : List ℕ) (g : ℕ) → nat_le (length (gs ++ g ∷ [])) MOST_GROUPS ≡ nat_lt (length gs) MOST_GROUPS
@@ -202,10 +201,10 @@ open_step listens place at k last (Some gs) page only =
     let e = only gs refl in
     rw e (open_last listens place at k last gs)
 
-pub open_from-push : (listens : ℕ → Bool) (place : ℕ) (ws : List ℕ) (w : ℕ)
-    → open_from listens place (ws ++ w ∷ []) ≡ open_after listens (place + length ws) (open_from listens place ws) (kind_of w)
+pub open_from-push : (listens : ℕ → Bool) (place : ℕ) (ws : List (Option WordKind)) (w : Option WordKind)
+    → open_from listens place (ws ++ w ∷ []) ≡ open_after listens (place + length ws) (open_from listens place ws) w
 unfolding open_from all_groups
-open_from-push listens place [] w = first_word (kind_of w) ∙ ap (λ (n : ℕ). open_after listens n None (kind_of w)) (sym (add-zero place))
+open_from-push listens place [] w = first_word w ∙ ap (λ (n : ℕ). open_after listens n None w) (sym (add-zero place))
   where
     only_if : (t : Bool) (c : ℕ) (f : Function) → first_some (open_if (t && true) c f []) None ≡ open_if t c f []
     only_if true c f = refl
@@ -217,6 +216,6 @@ open_from-push listens place [] w = first_word (kind_of w) ∙ ap (λ (n : ℕ).
     first_word (Some (Address h f)) = only_if (listens (capcode_at place h)) (capcode_at place h) f
 open_from-push listens place (v ∷ ws) w =
     let e : suc place + length ws ≡ place + suc (length ws) = omega arith in
-    ap₂ (λ (x : Option (List ℕ)) (y : Option HeardPage). first_some (open_with listens place (kind_of v) x) y) (all_groups-push ws w) (open_from-push listens (suc place) ws w)
-    ∙ open_step listens place (suc place + length ws) (kind_of v) (kind_of w) (all_groups ws) (open_from listens (suc place) ws) (λ gs h. (only_messages listens (suc place) ws gs h).1)
-    ∙ ap (λ (n : ℕ). open_after listens n (first_some (open_with listens place (kind_of v) (all_groups ws)) (open_from listens (suc place) ws)) (kind_of w)) e
+    ap₂ (λ (x : Option (List ℕ)) (y : Option HeardPage). first_some (open_with listens place v x) y) (all_groups-push ws w) (open_from-push listens (suc place) ws w)
+    ∙ open_step listens place (suc place + length ws) v w (all_groups ws) (open_from listens (suc place) ws) (λ gs h. (only_messages listens (suc place) ws gs h).1)
+    ∙ ap (λ (n : ℕ). open_after listens n (first_some (open_with listens place v (all_groups ws)) (open_from listens (suc place) ws)) w) e

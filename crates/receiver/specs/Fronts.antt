@@ -1,9 +1,8 @@
 -- Where a front end, a hunt or a lock, is in the bits that it was fed.
 use Rattle.std.specs.Prelude.{◌≡◌, ℕ, Bool, true, false, List, [], ◌++◌, Option, Some, None}
 use Rattle.receiver.specs.Stretches.{stretches, after_sync, words_of_bits}
-use Rattle.receiver.specs.Slots.{stretch_slots}
 use Rattle.receiver.specs.Locks.{Lock, lock_of, Hunts, LockHolds}
-use Rattle.receiver.specs.Heard.{HeardPage}
+use Rattle.receiver.specs.Heard.{HeardPage, kinds_in}
 use Rattle.receiver.specs.UnderWay.{open_from}
 
 -- a front end: a hunt that keeps these bits, or a lock
@@ -47,7 +46,7 @@ FrontIsAt (Locking locked) bits before words = (lock_words : List ℕ) × LocksA
 -- the page under way in the words of a lock
 abbrev pub page_under_way : (ℕ → Bool) → Option (List ℕ) → Option HeardPage
 page_under_way listens None = None
-page_under_way listens (Some words) = open_from listens 0 (stretch_slots words)
+page_under_way listens (Some words) = open_from listens 0 (kinds_in words)
 
 -- the front end was fed these bits
 pub record FrontStandsFor (front : FrontEnd) (bits : List Bool) : Type 0 where

@@ -1,6 +1,6 @@
 -- The pages that are heard in a list of bits. docs/profile.md, "page heard".
 use Rattle.codeword.specs.Capcodes.{capcode_at}
-use Rattle.std.specs.Prelude.{ℕ, suc, Bool, true, false, ◌&&◌, nat_le, List, [], ◌∷◌, ◌++◌, length, Option, Some, None, option_map, flat_map}
+use Rattle.std.specs.Prelude.{ℕ, suc, Bool, true, false, ◌&&◌, nat_le, List, [], ◌∷◌, ◌++◌, length, map, Option, Some, None, option_map, flat_map}
 use Rattle.codeword.specs.declared.functions.Function.{Function}
 use Rattle.codeword.specs.declared.kinds.WordKind.{WordKind}
 use Rattle.codeword.specs.declared.kinds.WordKind.TheVariants.{Address, Message}
@@ -27,10 +27,10 @@ groups_with None later = None
 groups_with (Some (Address high function)) later = Some []
 groups_with (Some (Message group)) later = option_map (λ gs. group ∷ gs) later
 
--- the groups of the message words before the first other word, if this is an address word
-unfoldable pub groups_to_address : List ℕ → Option (List ℕ)
+-- of what words say, the groups of the messages before the first other word, if this is an address word
+unfoldable pub groups_to_address : List (Option WordKind) → Option (List ℕ)
 groups_to_address [] = None
-groups_to_address (w ∷ ws) = groups_with (kind_of w) (groups_to_address ws)
+groups_to_address (kind ∷ kinds) = groups_with kind (groups_to_address kinds)
 
 -- a page, if the test holds
 abbrev pub page_if : Bool → ℕ → Function → List ℕ → List HeardPage
@@ -46,15 +46,19 @@ page_with listens place (Some (Address high function)) None = []
 page_with listens place (Some (Address high function)) (Some groups) =
     page_if (listens (capcode_at place high) && nat_le (length groups) MOST_GROUPS) (capcode_at place high) function groups
 
--- The pages of the slots from a place on, in order of place: one for each address word of a capcode that is listened to,
+-- The pages of what the slots say from a place on, in order of place: one for each address word of a capcode that is listened to,
 -- in a slot of its frame, which message words and then an address word follow.
-unfoldable pub pages_from : (ℕ → Bool) → ℕ → List ℕ → List HeardPage
+unfoldable pub pages_from : (ℕ → Bool) → ℕ → List (Option WordKind) → List HeardPage
 pages_from listens place [] = []
-pages_from listens place (w ∷ ws) = page_with listens place (kind_of w) (groups_to_address ws) ++ pages_from listens (suc place) ws
+pages_from listens place (kind ∷ kinds) = page_with listens place kind (groups_to_address kinds) ++ pages_from listens (suc place) kinds
+
+-- what the slots of a stretch say
+abbrev pub kinds_in : List ℕ → List (Option WordKind)
+kinds_in words = map kind_of (stretch_slots words)
 
 -- the pages of a stretch
 abbrev pub stretch_pages : (ℕ → Bool) → List ℕ → List HeardPage
-stretch_pages listens words = pages_from listens 0 (stretch_slots words)
+stretch_pages listens words = pages_from listens 0 (kinds_in words)
 
 -- the pages of all stretches to the capcodes that are listened to
 abbrev pub heard : (ℕ → Bool) → List Bool → List HeardPage

@@ -3,7 +3,6 @@ use Rattle.std.specs.Prelude.{ℕ, suc, Bool, true, false, ◌&&◌, nat_le, nat
 use Rattle.codeword.specs.declared.functions.Function.{Function}
 use Rattle.codeword.specs.declared.kinds.WordKind.{WordKind}
 use Rattle.codeword.specs.declared.kinds.WordKind.TheVariants.{Address, Message}
-use Rattle.codeword.specs.Kinds.{kind_of}
 use Rattle.page_text.specs.declared.limits.TheConstants.{MOST_GROUPS}
 use Rattle.codeword.specs.Capcodes.{capcode_at}
 use Rattle.receiver.specs.Heard.{HeardPage}
@@ -16,10 +15,10 @@ messages_with None later = None
 messages_with (Some (Address high function)) later = None
 messages_with (Some (Message group)) later = option_map (λ gs. group ∷ gs) later
 
--- the groups of the words, if all are message words
-unfoldable pub all_groups : List ℕ → Option (List ℕ)
+-- the groups of what words say, if all are message words
+unfoldable pub all_groups : List (Option WordKind) → Option (List ℕ)
 all_groups [] = Some []
-all_groups (w ∷ ws) = messages_with (kind_of w) (all_groups ws)
+all_groups (kind ∷ kinds) = messages_with kind (all_groups kinds)
 
 -- a page, if the test holds
 abbrev pub open_if : Bool → ℕ → Function → List ℕ → Option HeardPage
@@ -40,9 +39,9 @@ first_some None later = later
 first_some (Some page) later = Some page
 
 -- the page that has begun in these slots, and that only message words follow so far
-unfoldable pub open_from : (ℕ → Bool) → ℕ → List ℕ → Option HeardPage
+unfoldable pub open_from : (ℕ → Bool) → ℕ → List (Option WordKind) → Option HeardPage
 open_from listens place [] = None
-open_from listens place (w ∷ ws) = first_some (open_with listens place (kind_of w) (all_groups ws)) (open_from listens (suc place) ws)
+open_from listens place (kind ∷ kinds) = first_some (open_with listens place kind (all_groups kinds)) (open_from listens (suc place) kinds)
 
 -- ---- what one more slot does to it
 

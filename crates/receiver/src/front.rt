@@ -180,8 +180,8 @@ pub enum FrontEvent {
 }
 
 impl Front {
-    ghost use Rattle.receiver.specs.Fronts.{FrontStandsFor, HasUnderWay};
-    ghost use Rattle.receiver.specs.FrontSteps.{Shows, HearsPage, HasFrontPlace};
+    ghost use Rattle.receiver.specs.Fronts.{FrontIsAt, FrontStandsFor, HasUnderWay};
+    ghost use Rattle.receiver.specs.FrontSteps.{Shows, HearsPage, FrontGoesOn, HasFrontPlace, StaysAt};
     ghost use Rattle.receiver.specs.Heard.{HeardPage, heard};
     ghost use Rattle.receiver.specs.Last.{IsShorterFront};
     ghost use Rattle.receiver.specs.Slots.{entries};
@@ -194,6 +194,7 @@ impl Front {
     pub fn new() -> Front
         ensures stands { FrontStandsFor result [] }
         ensures page { (listens : ℕ → Bool) → HasUnderWay listens result None [] }
+        ensures start { FrontIsAt result [] [] None }
     {
         Front {
             register: Register::new(),
@@ -209,6 +210,8 @@ impl Front {
         ensures shows { (bits : List Bool) → FrontStandsFor self.old bits → Shows self.new result bits (bits ++ taken_of piece.old piece.new) }
         ensures hears { (listens : ℕ → Bool) (page : Option HeardPage) (bits : List Bool) → HasUnderWay listens self.old page bits
             → HearsPage listens page self.new result bits (bits ++ taken_of piece.old piece.new) }
+        ensures goes { (bits : List Bool) (before : List (List ℕ)) (words : Option (List ℕ)) → FrontIsAt self.old bits before words
+            → FrontGoesOn self.new result before words (bits ++ taken_of piece.old piece.new) }
         ensures place { HasFrontPlace result }
         ensures whole { piece.old ≡ taken_of piece.old piece.new ++ piece.new }
         ensures all { result ≡ Still → piece.new ≡ [] }
@@ -217,6 +220,8 @@ impl Front {
             → entries (bits ++ front) ≡ entries bits }
         ensures last_page { (listens : ℕ → Bool) (bits front : List Bool) → FrontStandsFor self.old bits → IsShorterFront front (taken_of piece.old piece.new)
             → heard listens (bits ++ front) ≡ heard listens bits }
+        ensures last_goes { (bits front : List Bool) (before : List (List ℕ)) (words : Option (List ℕ)) → FrontIsAt self.old bits before words
+            → IsShorterFront front (taken_of piece.old piece.new) → StaysAt (bits ++ front) before words }
     {
         if !self.is_locked {
             if !find_sync(&mut self.register, piece) {
@@ -252,6 +257,8 @@ impl Front {
         ensures shows { (bits : List Bool) → FrontStandsFor self.old bits → Shows self.new result bits (bits ++ bit ∷ []) }
         ensures hears { (listens : ℕ → Bool) (page : Option HeardPage) (bits : List Bool) → HasUnderWay listens self.old page bits
             → HearsPage listens page self.new result bits (bits ++ bit ∷ []) }
+        ensures goes { (bits : List Bool) (before : List (List ℕ)) (words : Option (List ℕ)) → FrontIsAt self.old bits before words
+            → FrontGoesOn self.new result before words (bits ++ bit ∷ []) }
         ensures place { HasFrontPlace result }
     {
         self.register.push(bit);

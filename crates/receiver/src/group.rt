@@ -28,9 +28,10 @@ use wires::steps::Steps;
 /// The most receivers of a group: their numbers are bits of a word of 64.
 pub const MOST_RECEIVERS: u32 = 64;
 
-/// The receivers of each capcode, as a set of their numbers: the lowest bit is for the receiver 1.
+/// The receivers of each capcode, as a set of their numbers: the lowest bit is for the receiver 1. Contracts see the list of the
+/// capcodes, each with its set.
 #[derive(Drop)]
-struct Holders {
+pub struct Holders {
     sets: BTreeMap<u32, u64, Global>,
     /// Each of these capcodes is marked. Few others have a mark, so that most of them aren't looked up.
     marks: Marks,
@@ -51,8 +52,27 @@ impl Model for Holders {
 }
 
 impl Holders {
-    /// The number of the receiver that comes after so many among those that have this capcode, in ascending order.
-    fn holder(&self, capcode: Capcode, k: u32) -> Option<u32>
+    /// The receivers of these pairs of a number and a capcode. The numbers are from 1 to 64. Memory comes only where there was none for
+    /// the pairs.
+    pub fn of(alloc: Global, pairs: &[(u32, Capcode)]) -> Result<Holders, Memory>
+        requires numbers { All (λ pair. (1 ≤ pair.0) × (pair.0 ≤ most_receivers)) pairs.now }
+        ensures capcodes { IfOk result (λ h. (c : ℕ) → is_one_of (keys_of h) c ≡ is_listed pairs.now c) }
+        ensures has { IfOk result (λ h. (number c : ℕ) → has_in h number c ≡ is_paired pairs.now number c) }
+    {
+        let mut sets = BTreeMap::new(alloc);
+        let mut marks = Marks::none();
+        for (number, capcode) in pairs {
+            if let Err(Memory) = add_holder(&mut sets, *number, *capcode) {
+                return Err(Memory);
+            }
+            marks.mark(capcode.number());
+        }
+        Ok(Holders { sets, marks })
+    }
+
+    /// The number of the receiver that comes after so many among those that have this capcode, in ascending order. None exactly where
+    /// there are no more than so many. The time doesn't grow with the number of receivers.
+    pub fn holder(&self, capcode: Capcode, k: u32) -> Option<u32>
         ensures { result ≡ slice_get (numbers_with (has_in self.now) capcode) k }
     {
         match self.sets.get(&capcode.number()) {
@@ -113,17 +133,12 @@ impl Group {
         ensures ready { IfOk result (λ g. g.ready ≡ None) }
         ensures stands { IfOk result (λ g. StandsFor g []) }
     {
-        let mut sets = BTreeMap::new(alloc);
-        let mut marks = Marks::none();
-        for (number, capcode) in pairs {
-            if let Err(Memory) = add_holder(&mut sets, *number, *capcode) {
-                return Err(Memory);
-            }
-            marks.mark(capcode.number());
-        }
+        let Ok(holders) = Holders::of(alloc, pairs) else {
+            return Err(Memory);
+        };
         Ok(Group {
             front: Front::new(),
-            holders: Holders { sets, marks },
+            holders,
             gathering: Gathering::new(),
         })
     }

@@ -19,7 +19,7 @@
 #![tactic(auto)]
 
 pub mod front;
-mod gathering;
+pub mod gathering;
 pub mod group;
 pub mod laws;
 mod marks;

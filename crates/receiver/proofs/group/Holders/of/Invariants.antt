@@ -3,7 +3,7 @@ use Rattle.std.specs.BTreeMap.{keys}
 use Rattle.codeword.specs.Capcodes.{IsUsable}
 use Rattle.receiver.specs.Listeners.{is_one_of}
 use Rattle.receiver.specs.Receivers.{has_in, is_listed, is_marked, is_paired}
-use Rattle.receiver.proofs.group.Group.new.Given as goal
+use Rattle.receiver.proofs.group.Holders.of.Given as goal
 
 -- the receivers and capcodes so far are those of the pairs so far
 abbrev pub invariant-loop-number : goal.invariant-loop-number

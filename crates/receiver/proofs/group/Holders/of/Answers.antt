@@ -3,7 +3,7 @@ use Rattle.codeword.specs.Capcodes.{IsUsable}
 use Rattle.receiver.specs.Receivers.{is_marked}
 use Rattle.std.specs.BTreeMap.{keys}
 use Rattle.receiver.proofs.Capcodes.{key_has, listed_more, paired_more}
-use Rattle.receiver.proofs.group.Group.new.Goals as goal
+use Rattle.receiver.proofs.group.Holders.of.Goals as goal
 
 pub loop-number-preserved : goal.loop-number-preserved
 loop-number-preserved c =

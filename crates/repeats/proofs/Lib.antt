@@ -1,0 +1,10 @@
+pub mod Kept
+pub mod Marked
+pub mod Pairings
+pub mod Recorded
+mod Rows
+pub mod TwinFeeding
+pub mod TwinPieces
+pub mod TwinSteps
+pub mod Twins
+pub mod TwoStretches

@@ -1,0 +1,5 @@
+pub mod Kept
+pub mod RecordingReaders
+pub mod Recordings
+pub mod Twin
+pub mod TwinListeners
