@@ -307,9 +307,9 @@ some_block : (p : PageToSend) → IsPage p → 0 + suc (count_of (content p) - 1
 some_block p h = let n = content_some p h in omega (arith, n)
 
 -- where no page is sent none is accepted
-none_for : (table : Directory) (pages : List PageToSend) (outcomes : List Outcome) (accepted : List Accepted) → outcomes ≡ all_are Disconnected pages → accepted ≡ [] → AreFor table (sent_of pages outcomes) accepted
-none_for table pages outcomes accepted is none =
-    subst (λ z. AreFor table (sent_of pages z) accepted) (sym is) (subst (λ z. AreFor table z accepted) (sym (none_sent Disconnected (λ e. cc) pages)) (subst (λ z. AreFor table [] z) (sym none) tt))
+none_for : (table : Directory) (pages : List PageToSend) (outcomes : List Outcome) (queued : List Accepted) → outcomes ≡ all_are Disconnected pages → queued ≡ [] → AreFor table (sent_of pages outcomes) queued
+none_for table pages outcomes queued is none =
+    subst (λ z. AreFor table (sent_of pages z) queued) (sym is) (subst (λ z. AreFor table z queued) (sym (none_sent Disconnected (λ e. cc) pages)) (subst (λ z. AreFor table [] z) (sym none) tt))
 
 -- only EOT CR is said, or a front of it is read
 leaves : (password : Option (List ℕ)) (table : Directory) (s : Course) (ps : List InputPiece) (r t : List ℕ) (n : ℕ) → t ≡ good_bye → Reads password AfterLogon ps r (take n t) → accepted_from table s (items_of password ps) ≡ []
@@ -332,6 +332,7 @@ sends_joined password table (p ∷ pages) h marks outcomes t r s ps n extra clos
 sends_joined password table (p ∷ pages) h marks outcomes t r s ps n extra closing (inr d) joined reads heard =
     by_passage (passes password table p r d.more d.rest extra d.outcome d.mark h.0 closing (count_of (content p) - 1) 0 n (some_block p h.0) s [] d.since ps refl d.undecided d.decides joined
     (subst (λ z. Reads password AfterLogon ps r (take n z)) (d.said_is ∙ append_assoc (block_at (content p) 0) (said_after (content p) 0 d.since) d.more) reads) (sym d.marks_are ∙ heard))
+    (λ m sends. sends_joined password table pages h.1 d.rest d.others d.more r m.course m.others m.room extra closing sends m.joined m.reads m.heard)
   where
     by_result : (u : Course) (os : List InputPiece) → ((d.outcome ≡ Sent) × ((a : Accepted) × IsFor table p a × (accepted_from table s (items_of password ps) ≡ a ∷ accepted_from table u (items_of password os))))
         ⊎ ((d.outcome ≡ Abandoned) × (accepted_from table s (items_of password ps) ≡ accepted_from table u (items_of password os)))
@@ -348,9 +349,11 @@ sends_joined password table (p ∷ pages) h marks outcomes t r s ps n extra clos
         subst (λ z. AreFor table (sent_of (p ∷ pages) z) (accepted_from table s (items_of password ps))) (sym q)
         (subst (λ z. AreFor table (sent_of pages d.others) z) (sym a) (again f))
 
-    by_passage : Comes password table p s r d.more d.rest extra ps d.outcome → AreFor table (sent_of (p ∷ pages) outcomes) (accepted_from table s (items_of password ps))
-    by_passage (passed m) = by_result m.course m.others m.result (λ sends. sends_joined password table pages h.1 d.rest d.others d.more r m.course m.others m.room extra closing sends m.joined m.reads m.heard)
-    by_passage (ended e none) =
+    by_passage : Comes password table p s r d.more d.rest extra ps d.outcome
+        → ((m : IsPassed password table p s r d.more d.rest extra ps d.outcome) → Sends pages d.rest d.others d.more → AreFor table (sent_of pages d.others) (accepted_from table m.course (items_of password m.others)))
+        → AreFor table (sent_of (p ∷ pages) outcomes) (accepted_from table s (items_of password ps))
+    by_passage (passed m) again = by_result m.course m.others m.result (again m)
+    by_passage (ended e none) again =
         let f : (d.others ≡ all_are Disconnected pages) × (d.more ≡ []) = subst (λ o. Follows o pages (λ os more. Sends pages d.rest os more) d.others d.more) e d.follows in
         let q : outcomes ≡ all_are Disconnected (p ∷ pages) = d.outcomes_are ∙ ap₂ (λ o os. o ∷ os) e f.0 in
         none_for table (p ∷ pages) outcomes (accepted_from table s (items_of password ps)) q none
