@@ -65,7 +65,7 @@ class Maker:
             return name, b""
         if function == 0:
             return name, "".join(self.random.choices(model.NUMERIC, k=self.random.randint(0, 40))).rstrip(" ").encode()
-        size = self.random.choice([0, 1, 5, 20, 31, 32, 33, 80, 300, 400])
+        size = self.random.choice([0, 1, 5, 20, 31, 32, 33, 80, 300, 1000])
         return name, bytes(self.random.choices([*range(0x20, 0x7F), 10, 13], k=size))
 
     def parts(self, pages):

@@ -45,7 +45,7 @@ class Maker:
             return "".join(self.random.choices(model.NUMERIC, k=self.random.choice([0, 1, 5, 6, 20, 40, 41]))).encode()
         if function in (1, 2):
             return self.random.choice([b""] * 9 + [b"x"])
-        size = self.random.choice([0, 1, 3, 10, 31, 32, 33, 100, 200, 399, 400, 401])
+        size = self.random.choice([0, 1, 3, 10, 31, 32, 33, 100, 200, 400, 999, 1000, 1001])
         return bytes(self.random.choices([*range(0x20, 0x7F), 10, 13, 13, 0x5C, 0x5C], k=size))
 
     def pieces(self, body):
@@ -57,7 +57,7 @@ class Maker:
             body = body[size:]
         cut.append((body, 3))
         if self.random.random() < 0.02:
-            cut = [(b"A" * self.random.choice([250, 251]), 0x1F)] * 5 + cut
+            cut = [(b"A" * self.random.choice([250, 251]), 0x1F)] * 10 + cut
         return cut
 
     def block(self, body, end):
@@ -213,7 +213,7 @@ def compare_station(maker, program):
 def compare_send(maker, program):
     """A call of the client: what it says and what becomes of its pages, whatever a terminal says."""
     password = maker.random.choice([None, b"SECRET"])
-    pages = [(str(maker.random.randint(0, 9999)).encode(), maker.text(maker.random.choice([0, 3]))[:400]) for _ in range(maker.random.randint(0, 4))]
+    pages = [(str(maker.random.randint(0, 9999)).encode(), maker.text(maker.random.choice([0, 3]))[:1000]) for _ in range(maker.random.randint(0, 4))]
     content = b"PG1" + (password or b"") + b"\n"
     content += b"".join(name + b" " + model.shown(text).encode() + b"\n" for name, text in pages)
     hears = maker.hears()

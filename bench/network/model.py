@@ -92,7 +92,7 @@ def fits(function, text):
         return text == b""
     if function == 0:
         return len(text) <= 40 and all(chr(c) in NUMERIC for c in text) and not text.endswith(b" ")
-    return len(text) <= 400 and all(0x20 <= c <= 0x7E or c in b"\r\n" for c in text)
+    return len(text) <= 1000 and all(0x20 <= c <= 0x7E or c in b"\r\n" for c in text)
 
 
 # ---- the entry line
@@ -221,7 +221,7 @@ def short_session(characters, password, subscribers, spare):
             answer = "NAK"
         elif len(body) > 250:
             answer, joined = "RS body", b""
-        elif len(joined) + len(body) > 1000:
+        elif len(joined) + len(body) > 2200:
             answer, joined = "RS content", b""
         elif end != 3:
             answer, joined = "ACK", joined + body
@@ -347,7 +347,7 @@ def heard_in(found, capcodes):
             while end < len(fixed) and fixed[end][0] is not None and fixed[end][0] >> 31:
                 end += 1
             held = [word >> 11 & 0xFFFFF for word, _ in fixed[p + 1 : end]]
-            if capcode in capcodes and end < len(fixed) and fixed[end][0] is not None and len(held) <= 140:
+            if capcode in capcodes and end < len(fixed) and fixed[end][0] is not None and len(held) <= 350:
                 pages.append((fixed[end][1], (capcode, function, text_of(function, held))))
     return [page for _, page in sorted(pages, key=lambda page: page[0])]
 

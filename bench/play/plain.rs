@@ -32,7 +32,7 @@ pub struct Piece {
 
 impl Pieces {
     pub fn new() -> Pieces {
-        Pieces { is_locked: false, place: 0, register: 0, count: 0, page: None, groups: Vec::with_capacity(141), ready: None }
+        Pieces { is_locked: false, place: 0, register: 0, count: 0, page: None, groups: Vec::with_capacity(351), ready: None }
     }
 
     /// Takes the first bits of a piece: up to one that completes a page, or all. Says whether one is complete.
@@ -103,7 +103,7 @@ impl Pieces {
             None => self.page = None,
             Some(v) if v >> 31 == 1 => {
                 if self.page.is_some() {
-                    if self.groups.len() == 140 {
+                    if self.groups.len() == 350 {
                         self.page = None;
                     } else {
                         self.groups.push(v >> 11 & 0xF_FFFF);
@@ -129,7 +129,7 @@ impl Pieces {
     }
 
     /// The text of a page: alphanumeric where the function is 3, numeric where it is 0.
-    fn text(&self, function: u32, into: &mut [u8; 700]) -> usize {
+    fn text(&self, function: u32, into: &mut [u8; 1750]) -> usize {
         let (width, blank) = match function {
             0 => (4, b' '),
             3 => (7, 0),
@@ -149,7 +149,7 @@ impl Pieces {
 
 /// Puts the line of a page.
 pub fn print(out: &mut File, pieces: &Pieces, function: u32) -> std::io::Result<()> {
-    let mut text = [0; 700];
+    let mut text = [0; 1750];
     let length = pieces.text(function, &mut text);
     let mut line = Vec::with_capacity(2811);
     for place in [1_000_000, 100_000, 10_000, 1_000, 100, 10, 1] {

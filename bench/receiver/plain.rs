@@ -64,7 +64,7 @@ pub struct Plain {
 impl Plain {
     /// A receiver that was fed no bit.
     pub fn new() -> Plain {
-        Plain { is_locked: false, place: 0, register: 0, count: 0, is_open: false, groups: Vec::with_capacity(141) }
+        Plain { is_locked: false, place: 0, register: 0, count: 0, is_open: false, groups: Vec::with_capacity(351) }
     }
 
     /// Takes a bit, and says whether it completes a page.
@@ -100,7 +100,7 @@ impl Plain {
             None => self.is_open = false,
             Some(v) if v >> 31 == 1 => {
                 if self.is_open {
-                    self.is_open = self.groups.len() < 140;
+                    self.is_open = self.groups.len() < 350;
                     self.groups.push(v >> 11 & 0xF_FFFF);
                 }
             }

@@ -119,7 +119,7 @@ enum Answer {
 
 struct Terminal {
     scanner: Scanner,
-    joined: Kept<1000>,
+    joined: Kept<2200>,
     heard: u32,
     wrong: u32,
     counts: [u32; 7],
@@ -171,7 +171,7 @@ impl Terminal {
             Item::Block { sum_ok: false, .. } => Answer::Nak,
             Item::Block { end, length, .. } => {
                 let body = self.scanner.body.slice();
-                if length > 250 || self.joined.len + body.len() > 1000 {
+                if length > 250 || self.joined.len + body.len() > 2200 {
                     self.joined.len = 0;
                     return Answer::Rs;
                 }
@@ -198,7 +198,7 @@ fn parts(content: &[u8]) -> Option<(&[u8], &[u8])> {
 }
 
 /// The value of a field.
-fn value(field: &[u8]) -> Option<Kept<1000>> {
+fn value(field: &[u8]) -> Option<Kept<2200>> {
     let mut value = Kept::new();
     let mut chars = field.iter();
     while let Some(c) = chars.next() {
@@ -229,7 +229,7 @@ fn content(content: &[u8], settings: &BTreeMap<Vec<u8>, Subscriber>, pool: &mut 
 
 fn fits(to: Subscriber, text: &[u8]) -> bool {
     if to.alpha {
-        text.len() <= 400 && text.iter().all(|c| matches!(c, 0x20..=0x7E | b'\r' | b'\n'))
+        text.len() <= 1000 && text.iter().all(|c| matches!(c, 0x20..=0x7E | b'\r' | b'\n'))
     } else {
         text.is_empty()
     }

@@ -95,19 +95,19 @@ welcome_short mine theirs directory spare more t answers accepted secret welcome
 
 -- the limit cuts nothing off
 whole : (mine theirs : Option (List ℕ)) (directory : Directory) (spare : ℕ) (pages : List PageToSend) (h t : List ℕ) (marks : List Mark) (outcomes : List Outcome) (answers : List Answer) (accepted : List Accepted)
-    → AllByRecursion IsPage pages → length pages ≤ 1000 → IsPassword mine → AreHeard h marks → Client mine pages marks outcomes t → IsPlayed theirs directory spare t answers accepted → h ≡ replies answers
+    → AllByRecursion IsPage pages → IsPassword mine → AreHeard h marks → Client mine pages marks outcomes t → IsPlayed theirs directory spare t answers accepted → h ≡ replies answers
     → length (replies answers) ≤ 999999 → AreFor directory (sent_of pages outcomes) accepted
-whole mine theirs directory spare pages h t marks outcomes answers accepted good few secret are client session said short =
+whole mine theirs directory spare pages h t marks outcomes answers accepted good secret are client session said short =
     let n : length (characters h) ≤ 999999 = (let a = length-map h char_of in let b = ap length said in omega (arith, a, b, short)) in
-    ends mine theirs directory spare pages h t marks outcomes answers accepted good few secret (subst (λ z. AreMarks z marks) (take_all 999999 (characters h) n) are) client session said
+    ends mine theirs directory spare pages h t marks outcomes answers accepted good secret (subst (λ z. AreMarks z marks) (take_all 999999 (characters h) n) are) client session said
 
 limited : (mine theirs : Option (List ℕ)) (directory : Directory) (spare : ℕ) (pages : List PageToSend) (h t : List ℕ) (marks : List Mark) (outcomes : List Outcome) (answers : List Answer) (accepted : List Accepted)
-    → AllByRecursion IsPage pages → length pages ≤ 1000 → IsPassword mine → AreHeard h marks → Client mine pages marks outcomes t → IsPlayed theirs directory spare t answers accepted → h ≡ replies answers
+    → AllByRecursion IsPage pages → IsPassword mine → AreHeard h marks → Client mine pages marks outcomes t → IsPlayed theirs directory spare t answers accepted → h ≡ replies answers
     → AreFor directory (sent_of pages outcomes) accepted
-limited mine theirs directory spare pages h t marks outcomes answers accepted good few secret are client session said = by_client client
+limited mine theirs directory spare pages h t marks outcomes answers accepted good secret are client session said = by_client client
   where
     short : length (replies answers) ≤ 999999 → AreFor directory (sent_of pages outcomes) accepted
-    short n = whole mine theirs directory spare pages h t marks outcomes answers accepted good few secret are client session said n
+    short n = whole mine theirs directory spare pages h t marks outcomes answers accepted good secret are client session said n
 
     few_said : length t ≤ 34 → AreFor directory (sent_of pages outcomes) accepted
     few_said n = let a = played_short theirs directory spare t answers accepted session in short (omega (arith, n, a))
@@ -133,6 +133,6 @@ limited mine theirs directory spare pages h t marks outcomes answers accepted go
             s.ignored s.calling s.decides s.said_is s.logs_on
 
 pub both_ends : BothEnds
-both_ends mine theirs directory spare pages h t marks outcomes session good few secret are client is_session said =
-    limited mine theirs directory spare pages h t marks outcomes session.answers session.pages good few secret are client
+both_ends mine theirs directory spare pages h t marks outcomes session good secret are client is_session said =
+    limited mine theirs directory spare pages h t marks outcomes session.answers session.pages good secret are client
     (played theirs directory spare t session (subst (λ z. IsSession theirs directory spare z session) (said_plain mine pages marks outcomes t secret good client) is_session)) said

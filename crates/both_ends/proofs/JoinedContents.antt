@@ -13,6 +13,7 @@ use Rattle.subscribers.specs.declared.subscriber.Subscriber.{Subscriber}
 use Rattle.tap_terminal.specs.declared.answers.Reason.{Reason}
 use Rattle.tap_terminal.specs.declared.answers.Reason.TheVariants.{Unknown, Text, Room}
 use Rattle.tap_terminal.specs.declared.answers.Answer.TheVariants.{Ack}
+use Rattle.page_text.specs.declared.limits.TheConstants.{LONGEST_TEXT}
 use Rattle.page_text.specs.FitTest.{fits}
 use Rattle.page_pool.specs.Cells.{cells_for}
 use Rattle.subscribers.specs.Directory.{Directory}
@@ -92,7 +93,7 @@ content_body p h = all_append IsBodyChar p.id (cr ∷ (escaped p.text ++ cr ∷ 
     cr_body : IsBodyChar cr
     cr_body = ((λ e. omega (arith, e)), (λ e. omega (arith, e)), (λ e. omega (arith, e)), (λ e. omega (arith, e)))
 
-pub content_length : (p : PageToSend) → IsPage p → length (content p) ≤ 812
+pub content_length : (p : PageToSend) → IsPage p → length (content p) ≤ 12 + 2 * LONGEST_TEXT
 content_length p h =
     let a = length-append p.id (cr ∷ (escaped p.text ++ cr ∷ [])) in
     let b = length-append (escaped p.text) (cr ∷ []) in

@@ -1,5 +1,5 @@
 -- Both ends from the first character on.
-use Rattle.std.proofs.Common.{◌≡◌, ◌≢◌, ℕ, ◌+◌, ◌-◌, ◌*◌, ◌≤◌, cond, Bool, true, false, List, [], ◌∷◌, ◌++◌, length, take, refl, ap, sym, ◌∙◌, subst, arith, append_assoc, append-nil, Option, Some, None, length-append}
+use Rattle.std.proofs.Common.{◌≡◌, ◌≢◌, ℕ, ◌+◌, ◌-◌, ◌*◌, ◌≤◌, cond, Bool, true, false, List, [], ◌∷◌, ◌++◌, length, take, refl, ap, sym, ◌∙◌, subst, arith, append_assoc, append-nil, Option, Some, None, length-append, inl, inr}
 use Rattle.std.specs.List.{AllByRecursion, flat_map}
 use Rattle.std.specs.Prelude.{codes}
 use Rattle.entry_line.specs.Chars.{cr}
@@ -7,9 +7,10 @@ use Rattle.tap_block.specs.Chars.{esc, characters}
 use Rattle.tap_block.specs.Reading.{BeforeLogon, AfterLogon, InputPiece, line, Reads, Entry, logon, empty_line, wrong_line, line_item, is_logon, without_lf, mode_by, items_of}
 use Rattle.both_ends.proofs.JoinedPieces.{goes_first}
 use Rattle.tap_terminal.specs.declared.answers.Answer.{Answer}
+use Rattle.tap_terminal.specs.declared.answers.Answer.TheVariants.{End}
 use Rattle.page_text.specs.Page.{Page as Accepted}
 use Rattle.subscribers.specs.Directory.{Directory}
-use Rattle.tap_terminal.specs.Session.{start, tell, answers_of, closing}
+use Rattle.tap_terminal.specs.Session.{ItemDecided, start, tell, answers_of, closing, is_too_long}
 use Rattle.tap_entry.specs.Marks.{AreMarks}
 use Rattle.tap_entry.specs.declared.hearing.Mark.{Mark}
 use Rattle.tap_entry.specs.declared.hearing.Mark.TheVariants.{Id as IdMark, Ack as AckMark, Nak as NakMark, End as EndMark, Go as GoMark}
@@ -22,7 +23,7 @@ use Rattle.tap_entry.specs.PagesFile.{IsPassword}
 use Rattle.both_ends.proofs.JoinedContents.{all_append, all_weak}
 use Rattle.both_ends.proofs.JoinedSessions.{IsPlayed}
 use Rattle.both_ends.proofs.JoinedReplies.{marks_for, reply_marks}
-use Rattle.both_ends.proofs.JoinedPages.{heard_from, accepted_from, take_over, sends_joined}
+use Rattle.both_ends.proofs.JoinedPages.{heard_from, accepted_from, take_over, IsClosing, sends_joined}
 
 -- the logon that the client says is one for the terminal
 abbrev pub IsWelcome : Option (List ℕ) → Option (List ℕ) → Type 0
@@ -65,14 +66,22 @@ flat_append : (xs ys : List Answer) → flat_map marks_for (xs ++ ys) ≡ flat_m
 flat_append [] ys = refl
 flat_append (x ∷ xs) ys = ap (λ z. marks_for x ++ z) (flat_append xs ys) ∙ sym (append_assoc (marks_for x) (flat_map marks_for xs) (flat_map marks_for ys))
 
+-- the marks of what closes a session
+closing_marks : (told : List ItemDecided) (count : ℕ) → IsClosing (flat_map marks_for (closing told count))
+closing_marks told count = by_test (is_too_long told count)
+  where
+    by_test : (b : Bool) → IsClosing (flat_map marks_for (cond b (End ∷ []) []))
+    by_test true = inr refl
+    by_test false = inl refl
+
 -- What the terminal made of the CR and the logon: the marks, and what it reads on.
 record IsGreeted (theirs : Option (List ℕ)) (table : Directory) (spare : ℕ) (more : List ℕ) (marks : List Mark) (accepted : List Accepted) : Type 0 where
   pieces : List InputPiece
   rest : List ℕ
   room : ℕ
-  enough : 836 * 1000 + 2 ≤ room
   reads : Reads theirs AfterLogon pieces rest (take room more)
   extra : List Mark
+  closing : IsClosing extra
   marks_are : marks ≡ IdMark ∷ AckMark ∷ GoMark ∷ (heard_from table (start spare) (items_of theirs pieces) ++ extra)
   accepted_are : accepted ≡ accepted_from table (start spare) (items_of theirs pieces)
 
@@ -91,9 +100,9 @@ greeted mine theirs table spare more t marks answers accepted secret welcome for
       pieces = g.others;
       rest = session.rest;
       room = 999998 - length (logon_line mine);
-      enough = omega (arith, short);
       reads = subst (λ z. Reads theirs (mode_by z BeforeLogon) g.others session.rest (take (999998 - length (logon_line mine)) more)) i g.reads;
       extra = flat_map marks_for (closing (tell table (start spare) (items_of theirs session.pieces)) (length t));
+      closing = closing_marks (tell table (start spare) (items_of theirs session.pieces)) (length t);
       marks_are = heard ∙ ap (flat_map marks_for) session.answers_are ∙ flat_append (answers_of (tell table (start spare) (items_of theirs session.pieces))) (closing (tell table (start spare) (items_of theirs session.pieces)) (length t))
           ∙ ap (λ z. heard_from table (start spare) z ++ flat_map marks_for (closing (tell table (start spare) (items_of theirs session.pieces)) (length t))) items;
       accepted_are = session.pages_are ∙ ap (accepted_from table (start spare)) items;
@@ -221,9 +230,9 @@ away_no theirs table spare t marks answers accepted said_is session heard before
     let p = prompted theirs table spare [] t marks answers accepted said_is session heard in no_end before rest p.0 no_id (sym are ∙ p.1)
 
 welcomed : (mine theirs : Option (List ℕ)) (table : Directory) (spare : ℕ) (pages : List PageToSend) (t : List ℕ) (marks : List Mark) (outcomes : List Outcome) (answers : List Answer) (accepted : List Accepted)
-    → AllByRecursion IsPage pages → length pages ≤ 1000 → IsPassword mine → IsWelcome mine theirs → Client mine pages marks outcomes t
+    → AllByRecursion IsPage pages → IsPassword mine → IsWelcome mine theirs → Client mine pages marks outcomes t
     → IsPlayed theirs table spare t answers accepted → marks ≡ flat_map marks_for answers → AreFor table (sent_of pages outcomes) accepted
-welcomed mine theirs table spare pages t marks outcomes answers accepted good few secret welcome client session heard = by_client client heard
+welcomed mine theirs table spare pages t marks outcomes answers accepted good secret welcome client session heard = by_client client heard
   where
     by_client : Client mine pages marks outcomes t → marks ≡ flat_map marks_for answers → AreFor table (sent_of pages outcomes) accepted
     by_client (silent s) heard = absurd (silent_no theirs table spare t marks answers accepted s.said_is session heard s.no_id)
@@ -239,9 +248,8 @@ welcomed mine theirs table spare pages t marks outcomes answers accepted good fe
         let d = go_decides s.since s.mark s.rest _ s.calling s.decides e in
         let reads = subst (λ z. Reads theirs AfterLogon g.pieces g.rest (take g.room (flat_map (λ m. cond (is_nak m) (logon_line mine) []) z ++ s.more))) d.0 g.reads in
         let sends : Sends pages s.rest outcomes s.more = subst (λ m. LogsOn m pages s.rest outcomes s.more) d.1 s.logs_on in
-        let room : 836 * length pages + 2 ≤ g.room = (let w = g.enough in omega (arith, w, few)) in
         subst (λ z. AreFor table (sent_of pages outcomes) z) (sym g.accepted_are)
-        (sends_joined theirs table pages good s.rest outcomes s.more g.rest (start spare) g.pieces g.room g.extra room sends refl reads d.2)
+        (sends_joined theirs table pages good s.rest outcomes s.more g.rest (start spare) g.pieces g.room g.extra g.closing sends refl reads d.2)
 
 again : Option (List ℕ) → List Mark → List ℕ
 again mine since = flat_map (λ m. cond (is_nak m) (logon_line mine) []) since
@@ -356,12 +364,12 @@ unwelcomed mine theirs table spare pages t marks outcomes answers accepted secre
         nothing l.0 d.1
 
 pub ends : (mine theirs : Option (List ℕ)) (table : Directory) (spare : ℕ) (pages : List PageToSend) (h t : List ℕ) (marks : List Mark) (outcomes : List Outcome) (answers : List Answer) (accepted : List Accepted)
-    → AllByRecursion IsPage pages → length pages ≤ 1000 → IsPassword mine
+    → AllByRecursion IsPage pages → IsPassword mine
     → AreMarks (characters h) marks → Client mine pages marks outcomes t → IsPlayed theirs table spare t answers accepted → h ≡ replies answers
     → AreFor table (sent_of pages outcomes) accepted
-ends mine theirs table spare pages h t marks outcomes answers accepted good few secret are client session said =
+ends mine theirs table spare pages h t marks outcomes answers accepted good secret are client session said =
     by_logon (is_logon theirs (without_lf (logon_text mine))) refl (reply_marks answers marks (subst (λ z. AreMarks (characters z) marks) said are))
   where
     by_logon : (b : Bool) → is_logon theirs (without_lf (logon_text mine)) ≡ b → marks ≡ flat_map marks_for answers → AreFor table (sent_of pages outcomes) accepted
-    by_logon true e heard = welcomed mine theirs table spare pages t marks outcomes answers accepted good few secret e client session heard
+    by_logon true e heard = welcomed mine theirs table spare pages t marks outcomes answers accepted good secret e client session heard
     by_logon false e heard = unwelcomed mine theirs table spare pages t marks outcomes answers accepted secret e client session heard

@@ -34,7 +34,7 @@ goes_first password mode p next (q ∷ qs) r x e h k =
     }
 
 -- a written sum and its CR are a trailer
-written_trailer : (n : ℕ) → IsTrailer (written n ++ cr ∷ [])
+pub written_trailer : (n : ℕ) → IsTrailer (written n ++ cr ∷ [])
 written_trailer n = ((λ h. omega (arith, h)), (λ h. omega (arith, h)), (λ h. omega (arith, h)))
 
 same_text : (x : List ℕ) → pointwise nat_eq x x ≡ true

@@ -12,6 +12,7 @@ use Rattle.page_text.specs.FitTest.{fits}
 use Rattle.page_pool.specs.Cells.{cells_for}
 use Rattle.subscribers.specs.Directory.{Directory}
 use Rattle.tap_terminal.specs.Verdict.{Verdict, refused, values_of, room_for, text_for, fields_for, by_end, verdict}
+use Rattle.tap_terminal.specs.declared.terminal.TheConstants.{LONGEST_CONTENT}
 use Rattle.tap_terminal.specs.Session.{Course, is_end, decided, tell, answers_of}
 use Rattle.tap_terminal.specs.Replies.{reply_of, replies}
 
@@ -44,7 +45,7 @@ short_end table spare Us x = omega arith
 
 short_verdict : (table : Directory) (spare : ℕ) (joined b : List ℕ) (e : End) (right : Bool) → IsShort (verdict table spare joined b e right)
 short_verdict table spare joined b e false = omega arith
-short_verdict table spare joined b e true = by_tests (nat_lt 250 (length b)) (nat_lt 1000 (length joined + length b))
+short_verdict table spare joined b e true = by_tests (nat_lt 250 (length b)) (nat_lt LONGEST_CONTENT (length joined + length b))
   where
     by_tests : (c d : Bool) → IsShort (cond c (refused Body) (cond d (refused Content) (by_end table spare e (joined ++ b))))
     by_tests true d = omega arith

@@ -1,5 +1,5 @@
 -- A client and a terminal, each hearing what the other says.
-use Rattle.std.specs.Prelude.{◌≡◌, ℕ, ◌≤◌, length, List, [], ◌∷◌, Option, Some}
+use Rattle.std.specs.Prelude.{◌≡◌, ℕ, List, [], ◌∷◌, Option, Some}
 use Rattle.std.specs.List.{AllByRecursion}
 use Rattle.tap_block.specs.Chars.{characters}
 use Rattle.tap_terminal.specs.Session.{Session, IsSession}
@@ -35,6 +35,6 @@ AreFor directory pages accepted = ⊥
 -- accepted pages are those that the client marks Sent.
 abbrev pub BothEnds : Type 0
 BothEnds = (mine theirs : Option (List ℕ)) (directory : Directory) (spare : ℕ) (pages : List PageToSend) (h t : List ℕ) (marks : List Mark) (outcomes : List Outcome) (session : Session)
-    → AllByRecursion IsPage pages → length pages ≤ 1000 → IsPassword mine
+    → AllByRecursion IsPage pages → IsPassword mine
     → AreHeard h marks → Client mine pages marks outcomes t → IsSession theirs directory spare (characters t) session → h ≡ replies session.answers
     → AreFor directory (sent_of pages outcomes) session.pages

@@ -16,6 +16,7 @@ use Rattle.tap_block.specs.declared.ends.End.{End}
 use Rattle.tap_block.specs.declared.ends.End.TheVariants.{Etx, Etb, Us}
 use Rattle.tap_terminal.specs.Session.{Course, Decided, IsSession, ItemDecided, Session, decide, is_end, pages_of, start, tell}
 use Rattle.tap_terminal.specs.Verdict.{Verdict, by_end, fields_for, refused, room_for, text_for, values_of, verdict}
+use Rattle.tap_terminal.specs.declared.terminal.TheConstants.{LONGEST_CONTENT}
 use Rattle.tap_terminal.specs.declared.answers.Answer.TheVariants.{Ack, Nak}
 use Rattle.tap_terminal.specs.declared.answers.Reason.TheVariants.{Body, Content, Room, Text}
 
@@ -66,11 +67,11 @@ module _ (Good : Page → Type 0) where
     IsGood-verdict : (spare : ℕ) (joined body : List ℕ) (e : End) (right : Bool) → IsGood (verdict directory spare joined body e right).page
     IsGood-verdict spare joined body e right =
         let three : Verdict = by_end directory spare e (joined ++ body) in
-        let two : Verdict = cond (nat_lt 1000 (length joined + length body)) (refused Content) three in
+        let two : Verdict = cond (nat_lt LONGEST_CONTENT (length joined + length body)) (refused Content) three in
         let one : Verdict = cond (nat_lt 250 (length body)) (refused Body) two in
         IsGood-cond (not right) (record { answer = Nak; joined = joined; page = None }) one tt
         (IsGood-cond (nat_lt 250 (length body)) (refused Body) two tt
-        (IsGood-cond (nat_lt 1000 (length joined + length body)) (refused Content) three tt (IsGood-by_end spare e (joined ++ body))))
+        (IsGood-cond (nat_lt LONGEST_CONTENT (length joined + length body)) (refused Content) three tt (IsGood-by_end spare e (joined ++ body))))
 
     IsGood-decide : (s : Course) (e : Entry) → IsGood (decide directory s e).told.page
     IsGood-decide s empty_line = tt

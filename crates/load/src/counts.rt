@@ -17,8 +17,8 @@ pub(crate) struct Lines {
     pub(crate) count: u64,
     pub(crate) bytes: u64,
     pub(crate) sum: u64,
-    ghost bytes_few: { bytes ≤ 2811 * count },
-    ghost sum_few: { sum ≤ 716805 * count },
+    ghost bytes_few: { bytes ≤ LONGEST_LINE * count },
+    ghost sum_few: { sum ≤ 255 * LONGEST_LINE * count },
 }
 
 impl Lines {

@@ -1,7 +1,7 @@
 //! The limits of texts. Each is named here alone. What follows from another one is computed from it.
 
 /// The most characters of an alphanumeric text (docs/profile.md, "functions"). No text has more.
-pub const LONGEST_TEXT: usize = 400;
+pub const LONGEST_TEXT: usize = 1_000;
 
 /// The most characters of a numeric text (docs/profile.md, "functions").
 pub const LONGEST_NUMERIC: usize = 40;

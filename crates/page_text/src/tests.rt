@@ -45,9 +45,9 @@ fn groups_are_the_worked_ones(rt: HostRuntime) {
 #[test]
 fn a_text_fits_or_has_its_first_fault(rt: HostRuntime) {
     let digits = [b'7'; 41];
-    let letters = [b'A'; 401];
+    let letters = [b'A'; 1_001];
     let foreign_digits = [b'Z'; 41];
-    let foreign_letters = [0x7F; 401];
+    let foreign_letters = [0x7F; 1_001];
     let table: [(&str, Function, &[u8], Result<(), TextFault>); 26] = [
         ("a tone without a text", Function::Tone1, b"", Ok(())),
         (
@@ -138,15 +138,20 @@ fn a_text_fits_or_has_its_first_fault(rt: HostRuntime) {
             b"A ",
             Ok(()),
         ),
-        ("400 letters", Function::Alpha, &letters[..400], Ok(())),
         (
-            "401 letters",
+            "1,000 letters",
+            Function::Alpha,
+            &letters[..1_000],
+            Ok(()),
+        ),
+        (
+            "1,001 letters",
             Function::Alpha,
             &letters,
             Err(TextFault::TooLong),
         ),
         (
-            "401 foreign characters in an alphanumeric text",
+            "1,001 foreign characters in an alphanumeric text",
             Function::Alpha,
             &foreign_letters,
             Err(TextFault::TooLong),
@@ -179,6 +184,8 @@ fn a_length_has_its_count_of_words(rt: HostRuntime) {
         (Function::Alpha, 2, 1),
         (Function::Alpha, 3, 2),
         (Function::Alpha, 400, 140),
+        (Function::Alpha, 401, 141),
+        (Function::Alpha, 1_000, 350),
     ] {
         assert!(rt; length <= LONGEST_TEXT, "{length} characters");
         assert_eq!(rt; word_count(function, length), count, "{length} characters");
@@ -186,7 +193,7 @@ fn a_length_has_its_count_of_words(rt: HostRuntime) {
 }
 
 #[test]
-fn four_hundred_letters_are_read_back_from_140_groups(rt: HostRuntime) {
+fn a_thousand_letters_are_read_back_from_350_groups(rt: HostRuntime) {
     let mut text = [b'A'; LONGEST_TEXT];
     for i in 0..LONGEST_TEXT {
         text[i] = 0x20 + (i % 95) as u8;
@@ -283,12 +290,12 @@ fn lines_are_printed(rt: HostRuntime) -> Result<(), Fail> {
 #[test]
 fn the_longest_line_is_one_piece(rt: HostRuntime) -> Result<(), Fail> {
     let capcode = Capcode::of(8).expect(&rt, "a usable capcode");
-    let mut sink = MemorySink::new(rt.alloc(), 2811, &[2])?;
+    let mut sink = MemorySink::new(rt.alloc(), 7_011, &[2])?;
     assert_eq!(rt;
         line(capcode, Function::Alpha, &[0; LONGEST_READ], &mut sink),
         Ok(())
     );
-    assert_eq!(rt; sink.bytes().len(), 2811);
+    assert_eq!(rt; sink.bytes().len(), 7_011);
     Ok(())
 }
 

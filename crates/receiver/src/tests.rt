@@ -321,10 +321,10 @@ fn receivers_hear_what_the_plain_program_hears(rt: HostRuntime) -> Result<(), Fa
 
 // So many message words behind an address word, and an idle word.
 #[test]
-fn a_page_has_at_most_140_message_words(rt: HostRuntime) -> Result<(), Fail> {
+fn a_page_has_at_most_350_message_words(rt: HostRuntime) -> Result<(), Fail> {
     let alloc = rt.alloc();
     let capcodes = [Capcode::of(8).expect(&rt, "a usable capcode")];
-    for (messages, heard) in [(139, 1), (140, 1), (141, 0), (142, 0)] {
+    for (messages, heard) in [(349, 1), (350, 1), (351, 0), (352, 0)] {
         let mut bits = Vec::new(alloc);
         add_words(&mut bits, &[SYNC, ADDRESS])?;
         for slot in 1..=messages + 1 {

@@ -19,6 +19,7 @@ use Rattle.tap_terminal.specs.Session.{Course, Decided, Session, ItemDecided, de
 use Rattle.page_text.specs.FitTest.{fits}
 use Rattle.subscribers.specs.Directory.{Directory, directory_of}
 use Rattle.tap_terminal.specs.Verdict.{Verdict, by_end, fields_for, refused, room_for, text_for, values_of, verdict}
+use Rattle.tap_terminal.specs.declared.terminal.TheConstants.{LONGEST_CONTENT}
 use Rattle.tap_terminal.specs.declared.answers.Answer.TheVariants.{Ack, Nak}
 use Rattle.tap_terminal.specs.declared.answers.Reason.TheVariants.{Body, Content, Room, Text}
 use Rattle.station.specs.AcceptedPages.{AreAcceptable}
@@ -62,11 +63,11 @@ module _ (directory : Directory) (usable : GivesUsable directory) where
   IsFine-verdict : (spare : ℕ) (joined body : List ℕ) (e : End) (right : Bool) → IsFine (verdict directory spare joined body e right).page
   IsFine-verdict spare joined body e right =
       let three : Verdict = by_end directory spare e (joined ++ body) in
-      let two : Verdict = cond (nat_lt 1000 (length joined + length body)) (refused Content) three in
+      let two : Verdict = cond (nat_lt LONGEST_CONTENT (length joined + length body)) (refused Content) three in
       let one : Verdict = cond (nat_lt 250 (length body)) (refused Body) two in
       IsFine-cond (not right) (record { answer = Nak; joined = joined; page = None }) one tt
       (IsFine-cond (nat_lt 250 (length body)) (refused Body) two tt
-      (IsFine-cond (nat_lt 1000 (length joined + length body)) (refused Content) three tt (IsFine-by_end spare e (joined ++ body))))
+      (IsFine-cond (nat_lt LONGEST_CONTENT (length joined + length body)) (refused Content) three tt (IsFine-by_end spare e (joined ++ body))))
 
   -- ---- all items
 

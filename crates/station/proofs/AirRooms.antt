@@ -31,6 +31,7 @@ use Rattle.subscribers.specs.Directory.{Directory, directory_of}
 use Rattle.tap_terminal.specs.Session.{answers_of, closing, Course, Decided, Session, ItemDecided, cells_for_page, decide, is_end, pages_of, start, tell}
 use Rattle.page_text.specs.FitTest.{fits}
 use Rattle.tap_terminal.specs.Verdict.{Verdict, by_end, fields_for, refused, room_for, text_for, values_of, verdict}
+use Rattle.tap_terminal.specs.declared.terminal.TheConstants.{LONGEST_CONTENT}
 use Rattle.tap_terminal.specs.declared.answers.Answer.TheVariants.{Ack, Nak}
 use Rattle.tap_terminal.specs.declared.answers.Reason.TheVariants.{Body, Content, Room, Text}
 use Rattle.station.specs.AirRoom.{AirsFit, ShelfFits, WireFits, most_air}
@@ -117,11 +118,11 @@ module _ (directory : Directory) where
   within-verdict : (spare : ℕ) (joined body : List ℕ) (e : End) (right : Bool) → IsWithin spare (verdict directory spare joined body e right).page
   within-verdict spare joined body e right =
       let three : Verdict = by_end directory spare e (joined ++ body) in
-      let two : Verdict = cond (nat_lt 1000 (length joined + length body)) (refused Content) three in
+      let two : Verdict = cond (nat_lt LONGEST_CONTENT (length joined + length body)) (refused Content) three in
       let one : Verdict = cond (nat_lt 250 (length body)) (refused Body) two in
       within-cond (not right) spare (record { answer = Nak; joined = joined; page = None }) one (omega arith)
       (within-cond (nat_lt 250 (length body)) spare (refused Body) two (omega arith)
-      (within-cond (nat_lt 1000 (length joined + length body)) spare (refused Content) three (omega arith) (within-by_end spare e (joined ++ body))))
+      (within-cond (nat_lt LONGEST_CONTENT (length joined + length body)) spare (refused Content) three (omega arith) (within-by_end spare e (joined ++ body))))
 
   within-decide : (s : Course) (e : Entry) → cells_for_page (decide directory s e).told.page + (decide directory s e).course.spare ≤ s.spare
   within-decide s empty_line = omega arith

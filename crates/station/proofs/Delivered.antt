@@ -30,7 +30,7 @@ accepted-sent : {settings : Parts} {spare : ℕ} (call : Call settings spare) �
 accepted-sent {settings = settings} {spare = spare} call =
     AreFor-pages_for (directory_of settings) (sent_of call.pages call.outcomes) call.session.pages
     (both_ends call.password settings.password (directory_of settings) spare call.pages call.replied call.said call.marks call.outcomes call.session
-    call.are_pages call.few call.is_password call.marks_are call.client call.session_is call.replies_are)
+    call.are_pages call.is_password call.marks_are call.client call.session_is call.replies_are)
 
 joined-sent : {settings : Parts} {spare : ℕ} (calls : List (Call settings spare)) → joined (accepted_by calls) ≡ sent_by calls
 joined-sent [] = refl

@@ -4,7 +4,9 @@ use Rattle.std.proofs.lemmas.Bool.{cases_lt}
 use Rattle.std.proofs.lemmas.Fmt.{length-decimal-le}
 use Rattle.air.specs.Air.{IsAir, transmission}
 use Rattle.bits.specs.Bits.{bytes_bits, words_bits}
+use Rattle.page_text.specs.declared.limits.TheConstants.{LONGEST_TEXT}
 use Rattle.page_text.specs.Page.{Page}
+use Rattle.page_pool.specs.Cells.{cells_for}
 use Rattle.scheduler.specs.Plan.{slots_of}
 use Rattle.scheduler.proofs.Schedules.{slots_of-schedule}
 use Rattle.sampler.specs.Runs.{sampled_bits}
@@ -85,11 +87,11 @@ is_air_of (page ∷ pages) = (slots_of (page ∷ pages), slots_of-schedule (page
 
 -- ---- each command
 
--- one page of at most 400 characters
-one_fits : (capcode : ℕ) (body text : List ℕ) (bits : List Bool) → HasText body text → IsAir (alpha_page capcode text ∷ []) bits → length bits ≤ 8 * most_air 13
+-- one page with a text that fits
+one_fits : (capcode : ℕ) (body text : List ℕ) (bits : List Bool) → HasText body text → IsAir (alpha_page capcode text ∷ []) bits → length bits ≤ 8 * most_air (cells_for LONGEST_TEXT)
 one_fits capcode body text bits h a =
     let few = h.fits.short in
-    air_few (alpha_page capcode text ∷ []) bits 13 a (omega (arith, few))
+    air_few (alpha_page capcode text ∷ []) bits (cells_for LONGEST_TEXT) a (omega (arith, few))
 
 abbrev station_by : ℕ → Line → Result Parts SettingsFault → ℕ
 station_by count wire (Ok parts) = wire_room parts parts.cells wire + count * most_air parts.cells
@@ -170,7 +172,7 @@ fit_send address pages old s h room le = record {
 pub fit_with_room : FitWithRoom
 fit_with_room None old s h = (0, λ room le. tt)
 fit_with_room (Some (One capcode)) old s h = (
-  most_air 13,
+  most_air (cells_for LONGEST_TEXT),
   λ room le. record {
     input_tells = s.input_tells;
     input_steady = s.input_steady;

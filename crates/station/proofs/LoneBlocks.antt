@@ -59,7 +59,7 @@ stays_silent fed x body trailer c e b l =
     let all : b.front ++ (b.behind ++ c ∷ []) ≡ (stx ∷ body) ++ etx ∷ trailer =
     sym (append_assoc b.front b.behind (c ∷ [])) ∙ ap (λ (z : List ℕ). z ++ c ∷ []) (sym b.parts) ∙ e ∙ form.0 in
     let more : b.behind ++ c ∷ [] ≢ [] = λ k. omega (arith, ap length k, length-append b.behind (c ∷ [])) in
-    let none = front_of_block body trailer b.front (b.behind ++ c ∷ []) form.1 form.2 all more in
+    let none = front_of_block body trailer b.front (b.behind ++ c ∷ []) Etx form.1 form.2 all more in
     let empty = no_pieces b.scanner.password AfterLogon b.stands.pieces b.stands.rest b.front none b.stands.reads in
     b.some (b.stands.items_are ∙ ap (items_of b.scanner.password) empty)
 

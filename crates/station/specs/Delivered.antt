@@ -1,5 +1,5 @@
 -- What clients hand over, and what receivers hear of it.
-use Rattle.std.specs.Prelude.{◌≡◌, ℕ, ◌≤◌, Bool, true, List, [], ◌∷◌, length, map, flat_map, Option, Some, None, Ok}
+use Rattle.std.specs.Prelude.{◌≡◌, ℕ, Bool, true, List, [], ◌∷◌, map, flat_map, Option, Some, None, Ok}
 use Rattle.std.specs.List.{AllByRecursion}
 use Rattle.page_text.specs.Page.{Page as Accepted}
 use Rattle.air.specs.Near.{Near}
@@ -32,7 +32,6 @@ pub record Call (settings : Parts) (spare : ℕ) : Type 0 where
   pub session : Session
   pub is_password : IsPassword password
   pub are_pages : AllByRecursion IsPage pages
-  pub few : length pages ≤ 1000
   pub marks_are : AreHeard replied marks
   pub client : Client password pages marks outcomes said
   pub session_is : SessionOf settings spare said session

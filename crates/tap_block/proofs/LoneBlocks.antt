@@ -1,8 +1,9 @@
 -- A list that is one block from its first character to its last: how it is read, and how its fronts are.
 use Rattle.std.proofs.Common.{◌≡◌, ◌≢◌, ℕ, List, [], ◌∷◌, ◌++◌, length, length-append, drop, get_or, Option, Some, None, refl, sym, ◌∙◌, ap, ap₂, subst, append_assoc, append-nil, arith}
-use Rattle.tap_block.specs.declared.ends.End.TheVariants.{Etx}
+use Rattle.tap_block.specs.declared.ends.End.{End}
+use Rattle.tap_block.specs.declared.ends.End.TheVariants.{Etx, Etb, Us}
 use Rattle.entry_line.specs.Chars.{cr}
-use Rattle.tap_block.specs.Chars.{etb, etx, stx, us}
+use Rattle.tap_block.specs.Chars.{end_char, etb, etx, stx, us}
 use Rattle.tap_block.specs.Reading.{AfterLogon, block, IsBody, IsTrailer, items_of, Mode, InputPiece, Reads}
 use Rattle.tap_block.proofs.First.{after_trailer, body_cut, body_skipped, first_piece, found, no_piece, not_equal, trailer_cut}
 use Rattle.tap_block.proofs.Exists.{Cut, sound, trailer_sound, TrailerCut}
@@ -46,25 +47,29 @@ front_of_trailer (a ∷ b ∷ c ∷ d ∷ []) (e ∷ more) h n = elim h [ ]
 front_of_trailer (a ∷ b ∷ c ∷ d ∷ e ∷ t) (f ∷ more) h n = elim h [ ]
 
 -- no front of a body, its end and a trailer that isn't whole has a block
-front_of_body : (before b t p more : List ℕ) → IsBody b → IsTrailer t → p ++ more ≡ b ++ etx ∷ t → more ≢ [] → body_cut before p ≡ None
-front_of_body before b t [] more body trailer e n = refl
-front_of_body before [] t (c ∷ p) more body trailer e n =
-    let head : c ≡ etx = ap (λ (x : List ℕ). get_or x 0 0) e in
+front_of_body : (before b t p more : List ℕ) (end : End) → IsBody b → IsTrailer t → p ++ more ≡ b ++ end_char end ∷ t → more ≢ [] → body_cut before p ≡ None
+front_of_body before b t [] more end body trailer e n = refl
+front_of_body before [] t (c ∷ p) more end body trailer e n =
     let tail : p ++ more ≡ t = ap (drop 1) e in
     let cut : trailer_cut p ≡ None = front_of_trailer p more (subst IsTrailer (sym tail) trailer) n in
-    rw (head, cut) refl
-front_of_body before (d ∷ b) t (c ∷ p) more body trailer e n =
+    by_end end (ap (λ (x : List ℕ). get_or x 0 0) e) cut
+  where
+    by_end : (end : End) → c ≡ end_char end → trailer_cut p ≡ None → body_cut before (c ∷ p) ≡ None
+    by_end Etx head cut = rw (head, cut) refl
+    by_end Etb head cut = rw (head, cut) refl
+    by_end Us head cut = rw (head, cut) refl
+front_of_body before (d ∷ b) t (c ∷ p) more end body trailer e n =
     let head : c ≡ d = ap (λ (x : List ℕ). get_or x 0 0) e in
-    let tail : p ++ more ≡ b ++ etx ∷ t = ap (drop 1) e in
+    let tail : p ++ more ≡ b ++ end_char end ∷ t = ap (drop 1) e in
     rw (head, not_equal d stx body.0.0, not_equal d etx body.0.1, not_equal d etb body.0.2, not_equal d us body.0.3)
-    (front_of_body (before ++ d ∷ []) b t p more body.1 trailer tail n)
+    (front_of_body (before ++ d ∷ []) b t p more end body.1 trailer tail n)
 
 -- a front of a block that isn't the whole block is read as no pieces
-pub front_of_block : (b t p more : List ℕ) → IsBody b → IsTrailer t → p ++ more ≡ (stx ∷ b) ++ etx ∷ t → more ≢ [] → first_piece AfterLogon p ≡ None
-front_of_block b t [] more body trailer e n = refl
-front_of_block b t (c ∷ p) more body trailer e n =
+pub front_of_block : (b t p more : List ℕ) (end : End) → IsBody b → IsTrailer t → p ++ more ≡ (stx ∷ b) ++ end_char end ∷ t → more ≢ [] → first_piece AfterLogon p ≡ None
+front_of_block b t [] more end body trailer e n = refl
+front_of_block b t (c ∷ p) more end body trailer e n =
     let head : c ≡ stx = ap (λ (x : List ℕ). get_or x 0 0) e in
-    rw head (front_of_body [] b t p more body trailer (ap (drop 1) e) n)
+    rw head (front_of_body [] b t p more end body trailer (ap (drop 1) e) n)
 
 -- a block is read as itself
 pub lone_reads : (password : Option (List ℕ)) (b t : List ℕ) → IsBody b → IsTrailer t → Reads password AfterLogon (block b Etx t ∷ []) [] ((stx ∷ b) ++ etx ∷ t)

@@ -4,7 +4,7 @@ use Rattle.std.specs.List.{AllByRecursion, flat_map}
 use Rattle.std.proofs.lemmas.Bool.Decides.{eqb_tells, leb_tells, nat_tests}
 use Rattle.entry_line.specs.Chars.{lf, cr}
 use Rattle.tap_block.proofs.First.{not_equal}
-use Rattle.tap_entry.specs.declared.transfer.TheConstants.{LONGEST_TEXT}
+use Rattle.page_text.specs.declared.limits.TheConstants.{LONGEST_TEXT}
 use Rattle.tap_entry.specs.PagesFile.{Sign, plain, a_backslash, a_line_feed, a_return, hexadecimal, IsSign, sign_written, char_meant, digit_of, backslash}
 use Rattle.tap_entry.specs.Signs.{of_digits, hexadecimal_at, escape_at, sign_at, TextUpTo, BeginsText}
 

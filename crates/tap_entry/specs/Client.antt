@@ -7,7 +7,7 @@ use Rattle.tap_block.specs.Chars.{eot, esc}
 use Rattle.tap_block.specs.Fields.{escaped, block_of}
 use Rattle.tap_block.specs.declared.ends.End.{End as BlockEnd}
 use Rattle.tap_block.specs.declared.ends.End.TheVariants.{Etx as LastBlock, Us as FieldGoesOn}
-use Rattle.tap_entry.specs.declared.transfer.TheConstants.{LONGEST_TEXT}
+use Rattle.page_text.specs.declared.limits.TheConstants.{LONGEST_TEXT}
 use Rattle.tap_entry.specs.declared.hearing.Mark.{Mark}
 use Rattle.tap_entry.specs.declared.hearing.Mark.TheVariants.{Id, Ack, Nak, Rs, End, Go}
 use Rattle.tap_entry.specs.declared.outcomes.Outcome.{Outcome}

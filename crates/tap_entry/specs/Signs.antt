@@ -2,7 +2,7 @@
 use Rattle.std.specs.Prelude.{◌≡◌, ◌≢◌, ℕ, ◌+◌, ◌*◌, ◌≤◌, ◌==◌, nat_le, Bool, ◌&&◌, if◌then◌else◌, List, [], ◌∷◌, ◌++◌, length, map, Option, Some, None, ◌⊎◌}
 use Rattle.std.specs.List.{AllByRecursion, list_all, flat_map}
 use Rattle.entry_line.specs.Chars.{lf, cr, space}
-use Rattle.tap_entry.specs.declared.transfer.TheConstants.{LONGEST_TEXT}
+use Rattle.page_text.specs.declared.limits.TheConstants.{LONGEST_TEXT}
 use Rattle.tap_entry.specs.Client.{PageToSend}
 use Rattle.tap_entry.specs.PagesFile.{Sign, IsSign, sign_written, char_meant, IsWritten, IsLineOf, AreLinesOf, IsPassword, first_line, digit_of, backslash, most_pages, HasNoPageLine}
 use Rattle.tap_entry.specs.declared.faults.PagesFault.{PagesFault}

@@ -143,10 +143,10 @@ fn repeated(
 
 /// Pieces of a file, how often the second one stands, and the fault.
 const LONG: [(&[u8], &[u8], usize, &[u8], Option<PagesFault>); 8] = [
-    (b"PG1\n1 ", b"A", 400, b"\n", None),
-    (b"PG1\n1 ", b"A", 401, b"\n", Some(PagesFault::Line(2))),
-    (b"PG1\n1 ", b"\\x41", 400, b"\n", None),
-    (b"PG1\n1 ", b"\\n", 401, b"\n", Some(PagesFault::Line(2))),
+    (b"PG1\n1 ", b"A", 1000, b"\n", None),
+    (b"PG1\n1 ", b"A", 1001, b"\n", Some(PagesFault::Line(2))),
+    (b"PG1\n1 ", b"\\x41", 1000, b"\n", None),
+    (b"PG1\n1 ", b"\\n", 1001, b"\n", Some(PagesFault::Line(2))),
     (b"PG1\n", b"1 X\n", 1000, b"", None),
     (b"PG1\n", b"1 X\n", 1001, b"", Some(PagesFault::Line(1002))),
     (

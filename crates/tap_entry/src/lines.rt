@@ -7,9 +7,9 @@ ghost use Rattle.tap_entry.specs.Seen.{seen_page};
 ghost use Rattle.tap_entry.specs.Signs.{BeginsId, BeginsPage, is_visible, first_line_at, password_at};
 
 use crate::signs::text_line;
-use crate::transfer::LONGEST_TEXT;
 use arrayvec::ArrayVec;
 use entry_line::characters::{LF, MOST_DIGITS, PASSWORD_SIZE, SPACE};
+use page_text::LONGEST_TEXT;
 
 /// A page that was read.
 #[derive(Drop)]

@@ -5,9 +5,9 @@ ghost use Rattle.entry_line.specs.Chars.{lf};
 ghost use Rattle.tap_entry.specs.PagesFile.{digit_of};
 ghost use Rattle.tap_entry.specs.Signs.{sign_at, escape_at, hexadecimal_at, BeginsText};
 
-use crate::transfer::LONGEST_TEXT;
 use arrayvec::ArrayVec;
 use entry_line::characters::{CR, LF};
+use page_text::LONGEST_TEXT;
 
 /// The highest character of a text.
 const HIGHEST: u8 = 0x7E;

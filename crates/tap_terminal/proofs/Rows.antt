@@ -125,10 +125,20 @@ longest_body = refl
 abbrev letters : List ℕ
 letters = part (replicate 250 65) (codes "?9;")
 
--- a content of 1,001 characters, and a block behind it
-longest_content : session 64 (log_on ++ letters ++ letters ++ letters ++ letters ++ part (codes "A") (codes "062") ++ to_nobody)
-    ≡ record { answers = Id ∷ Go ∷ Ack ∷ Ack ∷ Ack ∷ Ack ∷ Rs Content ∷ Rs Unknown ∷ []; pages = []; report = record nothing { continued = 4; content = 1; unknown = 1 }; forced = false }
+-- a content of 2,250 characters, and a block behind it
+longest_content : session 64 (log_on ++ letters ++ letters ++ letters ++ letters ++ letters ++ letters ++ letters ++ letters ++ letters ++ to_nobody)
+    ≡ record {
+      answers = Id ∷ Go ∷ Ack ∷ Ack ∷ Ack ∷ Ack ∷ Ack ∷ Ack ∷ Ack ∷ Ack ∷ Rs Content ∷ Rs Unknown ∷ [];
+      pages = [];
+      report = record nothing { continued = 8; content = 1; unknown = 1 };
+      forced = false;
+    }
 longest_content = refl
+
+-- contents of 2,200 and of 2,201 characters
+content_of_2200 : (session 64 (log_on ++ letters ++ letters ++ letters ++ letters ++ letters ++ letters ++ letters ++ letters ++ part (replicate 200 65) (codes "2>9") ++ part (codes "A") (codes "062"))).answers
+    ≡ Id ∷ Go ∷ Ack ∷ Ack ∷ Ack ∷ Ack ∷ Ack ∷ Ack ∷ Ack ∷ Ack ∷ Ack ∷ Rs Content ∷ []
+content_of_2200 = refl
 
 -- a field that goes on in a second block
 two_parts : session 64 (log_on ++ part (codes "5551234" ++ cr ∷ codes "A" ++ sub ∷ []) (codes "1?2") ++ stx ∷ codes "MB" ++ cr ∷ etx ∷ codes "0:1" ++ cr ∷ [])
@@ -140,17 +150,26 @@ no_room : session 2 (log_on ++ block (codes "5551234") (replicate 64 65) (codes 
     ≡ record { answers = Id ∷ Go ∷ Ack ∷ Rs Room ∷ []; pages = page_8 (replicate 64 65) ∷ []; report = record nothing { pages = 1; room = 1 }; forced = false }
 no_room = refl
 
--- the front of a text of 400 characters
-abbrev front_of_400 : List ℕ
-front_of_400 = part (codes "5551234" ++ cr ∷ replicate 242 65) (codes "?09")
+-- the front of a text of 242 letters and more
+abbrev front_of_text : List ℕ
+front_of_text = part (codes "5551234" ++ cr ∷ replicate 242 65) (codes "?09")
 
 -- a text of 400 characters
-longest_text : session 64 (log_on ++ front_of_400 ++ stx ∷ replicate 158 65 ++ cr ∷ etx ∷ codes "830" ++ cr ∷ [])
+text_of_400 : session 64 (log_on ++ front_of_text ++ stx ∷ replicate 158 65 ++ cr ∷ etx ∷ codes "830" ++ cr ∷ [])
     ≡ record { answers = Id ∷ Go ∷ Ack ∷ Ack ∷ []; pages = page_8 (replicate 400 65) ∷ []; report = record nothing { pages = 1; continued = 1 }; forced = false }
+text_of_400 = refl
+
+-- the first 992 letters of a text
+abbrev front_of_992 : List ℕ
+front_of_992 = front_of_text ++ letters ++ letters ++ letters
+
+-- a text of 1,000 characters
+longest_text : session 64 (log_on ++ front_of_992 ++ stx ∷ replicate 8 65 ++ cr ∷ etx ∷ codes "21:" ++ cr ∷ [])
+    ≡ record { answers = Id ∷ Go ∷ Ack ∷ Ack ∷ Ack ∷ Ack ∷ Ack ∷ []; pages = page_8 (replicate 1000 65) ∷ []; report = record nothing { pages = 1; continued = 4 }; forced = false }
 longest_text = refl
 
--- a text of 401 characters
-too_long_text : (session 64 (log_on ++ front_of_400 ++ stx ∷ replicate 159 65 ++ cr ∷ etx ∷ codes "871" ++ cr ∷ [])).answers ≡ Id ∷ Go ∷ Ack ∷ Rs Text ∷ []
+-- a text of 1,001 characters
+too_long_text : (session 64 (log_on ++ front_of_992 ++ stx ∷ replicate 9 65 ++ cr ∷ etx ∷ codes "25;" ++ cr ∷ [])).answers ≡ Id ∷ Go ∷ Ack ∷ Ack ∷ Ack ∷ Ack ∷ Rs Text ∷ []
 too_long_text = refl
 
 -- skipped characters, a beginning that a new STX cuts off, and a lone EOT

@@ -17,6 +17,7 @@ use Rattle.tap_block.proofs.Values.{value_read, fault_read}
 use Rattle.tap_terminal.specs.declared.answers.Answer.{Answer}
 use Rattle.tap_terminal.specs.declared.answers.Answer.TheVariants.{Ack, Nak, Rs, End}
 use Rattle.tap_terminal.specs.declared.answers.Reason.TheVariants.{Body, Content, Form, Text, Room}
+use Rattle.tap_terminal.specs.declared.terminal.TheConstants.{LONGEST_CONTENT}
 use Rattle.tap_terminal.specs.declared.terminal.Stage.TheVariants.{Open, Ended}
 use Rattle.page_text.specs.FitTest.{fits}
 use Rattle.subscribers.specs.Directory.{Directory}
@@ -143,19 +144,19 @@ pub small_body : (b : List ℕ) (size : ℕ) → size ≡ min (length b) 251 →
 small_body b size h k = omega arith
 
 -- the verdict on a content that is too long
-pub verdict_content : (directory : Directory) (spare : ℕ) (j b : List ℕ) (e : BlockEnd) (right : Bool) → right ≡ true → length b ≤ 250 → 1000 < length j + length b
+pub verdict_content : (directory : Directory) (spare : ℕ) (j b : List ℕ) (e : BlockEnd) (right : Bool) → right ≡ true → length b ≤ 250 → LONGEST_CONTENT < length j + length b
     → verdict directory spare j b e right ≡ refused Content
 verdict_content directory spare j b e right r small big =
     let t : nat_lt 250 (length b) ≡ false = grind (arith, nat_tests) in
-    let u : nat_lt 1000 (length j + length b) ≡ true = grind (arith, nat_tests) in
+    let u : nat_lt LONGEST_CONTENT (length j + length b) ≡ true = grind (arith, nat_tests) in
     rw (r, t, u) refl
 
 -- the verdict by the end
-pub verdict_rest : (directory : Directory) (spare : ℕ) (j b : List ℕ) (e : BlockEnd) (right : Bool) → right ≡ true → length b ≤ 250 → length j + length b ≤ 1000
+pub verdict_rest : (directory : Directory) (spare : ℕ) (j b : List ℕ) (e : BlockEnd) (right : Bool) → right ≡ true → length b ≤ 250 → length j + length b ≤ LONGEST_CONTENT
     → verdict directory spare j b e right ≡ by_end directory spare e (j ++ b)
 verdict_rest directory spare j b e right r small big =
     let t : nat_lt 250 (length b) ≡ false = grind (arith, nat_tests) in
-    let u : nat_lt 1000 (length j + length b) ≡ false = grind (arith, nat_tests) in
+    let u : nat_lt LONGEST_CONTENT (length j + length b) ≡ false = grind (arith, nat_tests) in
     rw (r, t, u) refl
 
 -- the verdict on a transaction that goes on
@@ -211,11 +212,11 @@ verdict_said directory spare j b e right = first right
     third true = refl
     third false = end_said directory spare e (j ++ b)
 
-    second : (r : Bool) → IsSaid (cond r (refused Body) (cond (nat_lt 1000 (length j + length b)) (refused Content) (by_end directory spare e (j ++ b)))).answer
+    second : (r : Bool) → IsSaid (cond r (refused Body) (cond (nat_lt LONGEST_CONTENT (length j + length b)) (refused Content) (by_end directory spare e (j ++ b)))).answer
     second true = refl
-    second false = third (nat_lt 1000 (length j + length b))
+    second false = third (nat_lt LONGEST_CONTENT (length j + length b))
 
-    first : (r : Bool) → IsSaid (cond (not r) (record { answer = Nak; joined = j; page = None }) (cond (nat_lt 250 (length b)) (refused Body) (cond (nat_lt 1000 (length j + length b)) (refused Content) (by_end directory spare e (j ++ b))))).answer
+    first : (r : Bool) → IsSaid (cond (not r) (record { answer = Nak; joined = j; page = None }) (cond (nat_lt 250 (length b)) (refused Body) (cond (nat_lt LONGEST_CONTENT (length j + length b)) (refused Content) (by_end directory spare e (j ++ b))))).answer
     first true = second (nat_lt 250 (length b))
     first false = refl
 

@@ -13,6 +13,7 @@ use Rattle.tap_terminal.specs.declared.answers.Answer.TheVariants.{Ack, Nak, Rs}
 use Rattle.tap_terminal.specs.declared.answers.Reason.{Reason}
 use Rattle.tap_terminal.specs.declared.answers.Reason.TheVariants.{Body, Content, Form, Unknown, Text, Room}
 use Rattle.page_text.specs.FitTest.{fits}
+use Rattle.tap_terminal.specs.declared.terminal.TheConstants.{LONGEST_CONTENT}
 
 -- the answer to a block, the content so far after it, and the page that is queued, or none
 pub record Verdict : Type 0 where
@@ -61,10 +62,10 @@ by_end directory spare Etx content = judge_content directory spare content
 by_end directory spare other content = record { answer = Ack; joined = content; page = None }
 
 -- The first row of the table of judgements that applies: a wrong trailer, a body of more than 250 characters, a content of more
--- than 1,000, and then the end.
+-- than 2,200, and then the end.
 abbrev pub verdict : Directory → ℕ → List ℕ → List ℕ → End → Bool → Verdict
 verdict directory spare joined body e right =
     if not right then record { answer = Nak; joined = joined; page = None }
     else if nat_lt 250 (length body) then refused Body
-    else if nat_lt 1000 (length joined + length body) then refused Content
+    else if nat_lt LONGEST_CONTENT (length joined + length body) then refused Content
     else by_end directory spare e (joined ++ body)

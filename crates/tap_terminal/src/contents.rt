@@ -14,7 +14,7 @@ use tap_block::{fields, unescape};
 
 /// Answers a whole content, and queues its page.
 pub(crate) fn judge_content(content: &[u8], settings: &Settings, pool: &mut Pool) -> Answer
-    requires { length content.now ≤ 1000 }
+    requires { length content.now ≤ LONGEST_CONTENT }
     ensures { IsVerdictDone (judge_content (directory_of settings.now) pool.old.spare content.now) result pool.old pool.new }
 {
     let Some((first, second)) = fields(content) else {

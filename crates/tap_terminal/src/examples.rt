@@ -19,7 +19,7 @@ pub(crate) struct Row {
 }
 
 /// The sessions.
-pub(crate) const ROWS: [Row; 14] = [
+pub(crate) const ROWS: [Row; 16] = [
     Row {
         cells: 64,
         heard: &[(b"\r\x1BPG1\r\x025551234\rHELLO\r\x032?<\r\x04\r", 0)],
@@ -112,7 +112,12 @@ pub(crate) const ROWS: [Row; 14] = [
             (b"\x1F?9;\r\x02", 250),
             (b"\x1F?9;\r\x02", 250),
             (b"\x1F?9;\r\x02", 250),
-            (b"\x1F?9;\r\x02A\x1F062\r\x02999\rX\r\x03122\r", 0),
+            (b"\x1F?9;\r\x02", 250),
+            (b"\x1F?9;\r\x02", 250),
+            (b"\x1F?9;\r\x02", 250),
+            (b"\x1F?9;\r\x02", 250),
+            (b"\x1F?9;\r\x02", 250),
+            (b"\x1F?9;\r\x02999\rX\r\x03122\r", 0),
         ],
         answers: &[
             Answer::Id,
@@ -121,11 +126,15 @@ pub(crate) const ROWS: [Row; 14] = [
             Answer::Ack,
             Answer::Ack,
             Answer::Ack,
+            Answer::Ack,
+            Answer::Ack,
+            Answer::Ack,
+            Answer::Ack,
             Answer::Rs(Reason::Content),
             Answer::Rs(Reason::Unknown),
         ],
         pages: &[],
-        counts: [0, 4, 0, 0, 1, 0, 1, 0, 0, 0],
+        counts: [0, 8, 0, 0, 1, 0, 1, 0, 0, 0],
     },
     Row {
         cells: 64,
@@ -170,14 +179,53 @@ pub(crate) const ROWS: [Row; 14] = [
             (b"\x1F?09\r\x02", 159),
             (b"\r\x03871\r", 0),
         ],
+        answers: &[Answer::Id, Answer::Go, Answer::Ack, Answer::Ack],
+        pages: &[(8, Function::Alpha, &[b'A'; 401])],
+        counts: [1, 1, 0, 0, 0, 0, 0, 0, 0, 0],
+    },
+    Row {
+        cells: 64,
+        heard: &[
+            (b"\r\x1BPG1\r\x025551234\r", 242),
+            (b"\x1F?09\r\x02", 250),
+            (b"\x1F?9;\r\x02", 250),
+            (b"\x1F?9;\r\x02", 250),
+            (b"\x1F?9;\r\x02", 8),
+            (b"\r\x0321:\r", 0),
+        ],
         answers: &[
             Answer::Id,
             Answer::Go,
             Answer::Ack,
+            Answer::Ack,
+            Answer::Ack,
+            Answer::Ack,
+            Answer::Ack,
+        ],
+        pages: &[(8, Function::Alpha, &[b'A'; 1000])],
+        counts: [1, 4, 0, 0, 0, 0, 0, 0, 0, 0],
+    },
+    Row {
+        cells: 64,
+        heard: &[
+            (b"\r\x1BPG1\r\x025551234\r", 242),
+            (b"\x1F?09\r\x02", 250),
+            (b"\x1F?9;\r\x02", 250),
+            (b"\x1F?9;\r\x02", 250),
+            (b"\x1F?9;\r\x02", 9),
+            (b"\r\x0325;\r", 0),
+        ],
+        answers: &[
+            Answer::Id,
+            Answer::Go,
+            Answer::Ack,
+            Answer::Ack,
+            Answer::Ack,
+            Answer::Ack,
             Answer::Rs(Reason::Text),
         ],
         pages: &[],
-        counts: [0, 1, 0, 0, 0, 0, 0, 1, 0, 0],
+        counts: [0, 4, 0, 0, 0, 0, 0, 1, 0, 0],
     },
     Row {
         cells: 64,
@@ -227,7 +275,12 @@ pub(crate) const SESSIONS: [&[Piece]; 8] = [
         (b"\x1F?9;\r\x02", 250),
         (b"\x1F?9;\r\x02", 250),
         (b"\x1F?9;\r\x02", 250),
-        (b"\x1F?9;\r\x02A\x1F062\r", 0),
+        (b"\x1F?9;\r\x02", 250),
+        (b"\x1F?9;\r\x02", 250),
+        (b"\x1F?9;\r\x02", 250),
+        (b"\x1F?9;\r\x02", 250),
+        (b"\x1F?9;\r\x02", 200),
+        (b"\x1F2>9\r\x02A\x1F062\r", 0),
     ],
     &[
         (b"\x1BPG1\r\x025551234\r", 242),

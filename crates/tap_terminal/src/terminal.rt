@@ -27,7 +27,7 @@ use subscribers::Settings;
 use tap_block::{End, Item, LONGEST_BODY, Scanner};
 
 /// The most characters that the content of a transaction may have.
-pub const LONGEST_CONTENT: usize = 1000;
+pub const LONGEST_CONTENT: usize = 2_200;
 
 /// The wrong line of this number ends a session.
 pub const LAST_WRONG_LINE: u32 = 3;
@@ -220,7 +220,7 @@ impl Terminal {
 
 /// Appends a body to the content so far.
 fn append(joined: &mut ArrayVec<u8, LONGEST_CONTENT>, body: &[u8])
-    requires { length joined.old.items + length body.now ≤ 1000 }
+    requires { length joined.old.items + length body.now ≤ LONGEST_CONTENT }
     ensures { joined.new.items ≡ joined.old.items ++ body.now }
 {
     let _ = joined.try_extend_from_slice(body);

@@ -190,7 +190,7 @@ fn judge(
     if block.body.len() > 250 {
         return Ok(Answer::Rs(Reason::Body));
     }
-    if joined.len() > 1000 {
+    if joined.len() > 2_200 {
         return Ok(Answer::Rs(Reason::Content));
     }
     if block.end != End::Etx {

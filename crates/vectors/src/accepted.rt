@@ -10,7 +10,7 @@ subscriber = [
 ]
 ";
 
-pub(crate) const ACCEPTED: [Row; 13] = [
+pub(crate) const ACCEPTED: [Row; 15] = [
     Row {
         name: "a page",
         settings: S1,
@@ -156,18 +156,52 @@ pub(crate) const ACCEPTED: [Row; 13] = [
         pages: b"01 0000015 1 \n01 0000015 1 \n",
     },
     Row {
-        name: "400 characters, and 401",
+        name: "400 characters",
         settings: S1,
         heard: &[
             (b"\r\x1BPG1\r\x025551234\r", 242),
             (b"\x1F?09\r\x02", 158),
-            (b"\r\x03830\r\x025551234\r", 242),
+            (b"\r\x03830\r\x04\r", 0),
+        ],
+        said: b"ID=\x06\r\x1B[p\r\x06\r\x06\r\x1B\x04\r",
+        line: b"session 1 ended pages 1 continued 1 nak 0 body 0 content 0 form 0 unknown 0 text 0 room 0 wrong 0\n",
+        air: Air::Ends(9, 3),
+        capcodes: &["9"],
+        pages: b"",
+    },
+    Row {
+        name: "401 characters",
+        settings: S1,
+        heard: &[
+            (b"\r\x1BPG1\r\x025551234\r", 242),
             (b"\x1F?09\r\x02", 159),
             (b"\r\x03871\r\x04\r", 0),
         ],
-        said: b"ID=\x06\r\x1B[p\r\x06\r\x06\r\x06\r\x1E\r\x1B\x04\r",
-        line: b"session 1 ended pages 1 continued 2 nak 0 body 0 content 0 form 0 unknown 0 text 1 room 0 wrong 0\n",
-        air: Air::Ends(9, 3),
+        said: b"ID=\x06\r\x1B[p\r\x06\r\x06\r\x1B\x04\r",
+        line: b"session 1 ended pages 1 continued 1 nak 0 body 0 content 0 form 0 unknown 0 text 0 room 0 wrong 0\n",
+        air: Air::Ends(9, 2),
+        capcodes: &["9"],
+        pages: b"",
+    },
+    Row {
+        name: "1,000 characters, and 1,001",
+        settings: S1,
+        heard: &[
+            (b"\r\x1BPG1\r\x025551234\r", 242),
+            (b"\x1F?09\r\x02", 250),
+            (b"\x1F?9;\r\x02", 250),
+            (b"\x1F?9;\r\x02", 250),
+            (b"\x1F?9;\r\x02", 8),
+            (b"\r\x0321:\r\x025551234\r", 242),
+            (b"\x1F?09\r\x02", 250),
+            (b"\x1F?9;\r\x02", 250),
+            (b"\x1F?9;\r\x02", 250),
+            (b"\x1F?9;\r\x02", 9),
+            (b"\r\x0325;\r\x04\r", 0),
+        ],
+        said: b"ID=\x06\r\x1B[p\r\x06\r\x06\r\x06\r\x06\r\x06\r\x06\r\x06\r\x06\r\x06\r\x1E\r\x1B\x04\r",
+        line: b"session 1 ended pages 1 continued 8 nak 0 body 0 content 0 form 0 unknown 0 text 1 room 0 wrong 0\n",
+        air: Air::Ends(22, 1),
         capcodes: &["9"],
         pages: b"",
     },

@@ -14,6 +14,7 @@
 //! - `failing_calls`: runs in which each call of an object fails in turn, and `stands`, the tables of what they leave.
 //! - `trials`: runs of `trial`.
 //! - `clients`: runs of `send`.
+//! - `long_calls`: a client and a terminal, whose session ends within a page.
 //! - `refusals`: words that are no command, files that are not there, and settings files that are refused.
 //! - `long_files`: the longest files that are played, and longer ones.
 #![tactic(auto)]
@@ -32,6 +33,8 @@ mod cuts;
 mod failing_calls;
 #[cfg(test)]
 mod lines;
+#[cfg(test)]
+mod long_calls;
 #[cfg(test)]
 mod long_files;
 #[cfg(test)]

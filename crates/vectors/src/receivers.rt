@@ -157,24 +157,30 @@ fn receivers_hear_a_sampled_line(rt: HostRuntime) -> Result<(), Fail> {
     Ok(())
 }
 
-/// How many groups of zeros a page to capcode 8 has, and what is printed of it: no more than 140 are a page's.
-const GROUPS: [(usize, &[u8]); 2] = [(140, b"01 0000008 A \n"), (141, b"")];
+/// How many groups of zeros a page to capcode 8 has, in how many batches an idle word follows it, and what is printed of it: no more than
+/// 350 groups are a page's.
+const GROUPS: [(usize, usize, &[u8]); 2] = [(350, 22, b"01 0000008 A \n"), (351, 23, b"")];
 
-/// Appends nine batches with a page of so many groups of zeros.
-fn push_zeros(alloc: Global, air: &mut Vec<u8>, groups: usize) -> Result<(), AllocError> {
+/// Appends so many batches with a page of so many groups of zeros.
+fn push_zeros(
+    alloc: Global,
+    air: &mut Vec<u8>,
+    groups: usize,
+    batches: usize,
+) -> Result<(), AllocError> {
     let mut slots = Vec::new(alloc);
     slots.push((0usize, 0x0000_3B49u32))?;
     for slot in 1..=groups {
         slots.push((slot, 0x8000_0769))?;
     }
-    push_air(air, 9, &slots, 0)
+    push_air(air, batches, &slots, 0)
 }
 
 #[test]
-fn a_page_of_141_groups_is_not_printed(rt: HostRuntime) -> Result<(), Fail> {
-    for (groups, lines) in &GROUPS {
+fn a_page_of_351_groups_is_not_printed(rt: HostRuntime) -> Result<(), Fail> {
+    for (groups, batches, lines) in &GROUPS {
         let mut air = Vec::new(rt.alloc());
-        push_zeros(rt.alloc(), &mut air, *groups)?;
+        push_zeros(rt.alloc(), &mut air, *groups, *batches)?;
         let left = heard(rt.alloc(), PLAY, &air, &[])?;
         assert_eq!(rt; left.status, Status::Done, "{groups} groups");
         assert_eq!(rt; left.out.as_slice(), *lines, "{groups} groups");

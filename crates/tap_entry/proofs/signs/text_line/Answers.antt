@@ -1,5 +1,5 @@
 use Rattle.std.proofs.Common.{◌≡◌, ◌≢◌, arith, subst, length}
-use Rattle.tap_entry.specs.declared.transfer.TheConstants.{LONGEST_TEXT}
+use Rattle.page_text.specs.declared.limits.TheConstants.{LONGEST_TEXT}
 use Rattle.tap_entry.specs.Signs.{TextUpTo}
 use Rattle.tap_entry.proofs.Texts.{upto_more, text_ends, text_full, text_stops}
 use Rattle.tap_entry.proofs.signs.text_line.Goals as goal

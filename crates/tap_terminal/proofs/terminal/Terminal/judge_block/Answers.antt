@@ -1,6 +1,7 @@
 use Rattle.std.proofs.Common.{◌≡◌, ◌≤◌, ◌<◌, ◌+◌, ◌++◌, None, length, refl, ap, sym, ◌∙◌, subst, arith}
 use Rattle.tap_terminal.specs.declared.answers.Answer.TheVariants.{Rs, Ack}
 use Rattle.tap_terminal.specs.declared.answers.Reason.TheVariants.{Content}
+use Rattle.tap_terminal.specs.declared.terminal.TheConstants.{LONGEST_CONTENT}
 use Rattle.tap_terminal.specs.Verdict.{Verdict, refused, by_end, judge_content}
 use Rattle.subscribers.specs.Directory.{directory_of}
 use Rattle.tap_terminal.specs.State.{TerminalState, IsItemJudged}
@@ -18,7 +19,7 @@ returns-then-len-body-gt-LONGEST_CONTENT-clause-judged c b h k =
     let size_is = c.if-length-gt-LONGEST_BODY.false in
     let body_is : c.body-body.result.now ≡ b = c.body-body.ensures.value ∙ kept_whole b t.scanner.kept c.args.length h (ap (λ (d : TerminalState). d.scanner.kept) c.self.view_is ∙ k) size_is in
     let lengths = ap length body_is in
-    let big : 1000 < length t.joined + length b = omega (arith, lengths, c.if-len-body-gt-LONGEST_CONTENT.true, c.len.ensures.value) in
+    let big : LONGEST_CONTENT < length t.joined + length b = omega (arith, lengths, c.if-len-body-gt-LONGEST_CONTENT.true, c.len.ensures.value) in
     subst (λ (d : TerminalState). IsItemJudged f d (record t { joined = c.clear-then-len-body-gt-LONGEST_CONTENT.new.self.items }) (a_block b c.args.end c.args.sum_ok) (Rs Content) pool pool) c.self.view_is
     (judged_by f t c.clear-then-len-body-gt-LONGEST_CONTENT.new.self.items b c.args.end c.args.sum_ok (Rs Content) pool pool (refused Content)
     (verdict_content f pool.spare t.joined b c.args.end c.args.sum_ok c.if-not-sum_ok.false (small_body b c.args.length h size_is) big)
@@ -32,7 +33,7 @@ returns-in-Etb-clause-judged c b h k =
     let size_is = c.if-length-gt-LONGEST_BODY.false in
     let body_is : c.body-body.result.now ≡ b = c.body-body.ensures.value ∙ kept_whole b t.scanner.kept c.args.length h (ap (λ (d : TerminalState). d.scanner.kept) c.self.view_is ∙ k) size_is in
     let lengths = ap length body_is in
-    let small : length t.joined + length b ≤ 1000 = omega (arith, lengths, c.if-len-body-gt-LONGEST_CONTENT.false, c.len.ensures.value) in
+    let small : length t.joined + length b ≤ LONGEST_CONTENT = omega (arith, lengths, c.if-len-body-gt-LONGEST_CONTENT.false, c.len.ensures.value) in
     let joined_is : c.append.new.joined.items ≡ t.joined ++ b = c.append.ensures ∙ ap (λ z. t.joined ++ z) body_is in
     let v : Verdict = record { answer = Ack; joined = t.joined ++ b; page = None } in
     subst (λ (d : TerminalState). IsItemJudged f d (record t { joined = c.append.new.joined.items }) (a_block b c.args.end c.args.sum_ok) Ack pool pool) c.self.view_is
@@ -49,7 +50,7 @@ returns-in-Etx-clause-judged c b h k =
     let size_is = c.if-length-gt-LONGEST_BODY.false in
     let body_is : c.body-body.result.now ≡ b = c.body-body.ensures.value ∙ kept_whole b t.scanner.kept c.args.length h (ap (λ (d : TerminalState). d.scanner.kept) c.self.view_is ∙ k) size_is in
     let lengths = ap length body_is in
-    let small : length t.joined + length b ≤ 1000 = omega (arith, lengths, c.if-len-body-gt-LONGEST_CONTENT.false, c.len.ensures.value) in
+    let small : length t.joined + length b ≤ LONGEST_CONTENT = omega (arith, lengths, c.if-len-body-gt-LONGEST_CONTENT.false, c.len.ensures.value) in
     let joined_is : c.append.new.joined.items ≡ t.joined ++ b = c.append.ensures ∙ ap (λ z. t.joined ++ z) body_is in
     let whole = c.as_slice.result.now in
     let whole_is : whole ≡ t.joined ++ b = c.as_slice.ensures.value ∙ joined_is in
