@@ -5,7 +5,7 @@
 mod plain;
 
 pub use plain::Code;
-use plain::{CAPCODE, is_sync};
+use plain::{CAPCODE, SYNC, is_sync};
 use std::fs::File;
 use std::io::{Read, Write};
 use std::mem::ManuallyDrop;
@@ -87,10 +87,12 @@ impl Pieces {
             }
         }
         let window = u64::from(self.register) << piece.count | u64::from(piece.bits) & ((1u64 << piece.count) - 1);
-        for k in 0..piece.count {
-            if is_sync((window >> (piece.count - 1 - k)) as u32) {
-                piece.count -= k + 1;
-                return true;
+        if !has_no_sync(window) {
+            for k in 0..piece.count {
+                if is_sync((window >> (piece.count - 1 - k)) as u32) {
+                    piece.count -= k + 1;
+                    return true;
+                }
             }
         }
         self.register = window as u32;
@@ -145,6 +147,16 @@ impl Pieces {
         }
         count
     }
+}
+
+/// A one for each word that differs from SYNC in one of the bits from `first` on and below `end`, at the place of the word's lowest bit.
+fn wrong_bits(window: u64, first: u32, end: u32) -> u64 {
+    (first..end).rev().fold(0, |wrong, place| wrong >> 1 | if SYNC >> place & 1 == 1 { !window } else { window }) >> first
+}
+
+/// Whether each of the 32 lowest words of a window has a wrong bit in each of three parts, so that none is near SYNC.
+fn has_no_sync(window: u64) -> bool {
+    (wrong_bits(window, 0, 11) & wrong_bits(window, 11, 22) & wrong_bits(window, 22, 32)) as u32 == u32::MAX
 }
 
 /// Puts the line of a page.

@@ -46,6 +46,7 @@ def air(batches):
 
 rows = [
     ("zeros", bytes(SIZE)),
+    ("random", random.Random(5).randbytes(SIZE)),
     ("preamble and idle batches", air(BATCH)),
     ("pages to other capcodes", air(pages(40_000))),
     ("pages, a fourth of them to its capcode", air(pages(8))),

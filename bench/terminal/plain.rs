@@ -10,20 +10,20 @@ use std::time::Instant;
 
 const SUB: u8 = 0x1A;
 const CELL: usize = 32;
-const NONE: u32 = u32::MAX;
+pub const NONE: u32 = u32::MAX;
 
 #[derive(Clone, Copy)]
-struct Subscriber {
-    capcode: u32,
-    alpha: bool,
+pub struct Subscriber {
+    pub capcode: u32,
+    pub alpha: bool,
 }
 
-/// As the proved one keeps it, though nothing is read back here.
+/// As the proved one keeps it, though `main` reads nothing back.
 #[allow(dead_code)]
 #[derive(Clone, Copy)]
-struct Head {
-    address: Option<Subscriber>,
-    length: u32,
+pub struct Head {
+    pub address: Option<Subscriber>,
+    pub length: u32,
     before: u32,
     after: u32,
     peer_before: u32,
@@ -40,19 +40,19 @@ const NO_PAGE: Head = Head {
 };
 
 /// The pages that wait, in a region of cells.
-struct Pool {
+pub struct Pool {
     bytes: Vec<u8>,
     links: Vec<u32>,
-    heads: Vec<Head>,
+    pub heads: Vec<Head>,
     free: u32,
     spare: u32,
-    first: u32,
+    pub first: u32,
     last: u32,
-    frames: [(u32, u32); 8],
+    pub frames: [(u32, u32); 8],
 }
 
 impl Pool {
-    fn new(cells: u32) -> Pool {
+    pub fn new(cells: u32) -> Pool {
         Pool {
             bytes: vec![0; CELL * cells as usize],
             links: (1..cells).chain([NONE]).collect(),
@@ -65,7 +65,7 @@ impl Pool {
         }
     }
 
-    fn put(&mut self, to: Subscriber, text: &[u8]) -> bool {
+    pub fn put(&mut self, to: Subscriber, text: &[u8]) -> bool {
         let cells = text.len().div_ceil(CELL).max(1) as u32;
         if self.spare < cells {
             return false;
@@ -104,10 +104,50 @@ impl Pool {
         ends.1 = start;
         true
     }
+
+    /// Copies the text of a page, and says how long it is.
+    pub fn copy_text(&self, start: u32, into: &mut [u8; 400]) -> usize {
+        let length = self.heads[start as usize].length as usize;
+        let mut cell = start as usize;
+        for part in into[..length].chunks_mut(CELL) {
+            part.copy_from_slice(&self.bytes[CELL * cell..CELL * cell + part.len()]);
+            cell = self.links[cell] as usize;
+        }
+        length
+    }
+
+    /// Takes the first page of a frame out.
+    pub fn take(&mut self, frame: usize) {
+        let start = self.frames[frame].0;
+        let head = self.heads[start as usize];
+        let mut end = start;
+        let mut cells = 1;
+        while self.links[end as usize] != NONE {
+            end = self.links[end as usize];
+            cells += 1;
+        }
+        self.links[end as usize] = self.free;
+        self.free = start;
+        self.spare += cells;
+        match head.before {
+            NONE => self.first = head.after,
+            before => self.heads[before as usize].after = head.after,
+        }
+        match head.after {
+            NONE => self.last = head.before,
+            after => self.heads[after as usize].before = head.before,
+        }
+        self.frames[frame].0 = head.peer_after;
+        match head.peer_after {
+            NONE => self.frames[frame].1 = NONE,
+            after => self.heads[after as usize].peer_before = NONE,
+        }
+        self.heads[start as usize] = NO_PAGE;
+    }
 }
 
 #[derive(Clone, Copy, PartialEq)]
-enum Answer {
+pub enum Answer {
     Nothing,
     Id,
     Go,
@@ -117,17 +157,17 @@ enum Answer {
     End,
 }
 
-struct Terminal {
+pub struct Terminal {
     scanner: Scanner,
     joined: Kept<2200>,
     heard: u32,
     wrong: u32,
     counts: [u32; 7],
-    ended: bool,
+    pub ended: bool,
 }
 
 impl Terminal {
-    fn new() -> Terminal {
+    pub fn new() -> Terminal {
         Terminal {
             scanner: Scanner::new(),
             joined: Kept::new(),
@@ -139,7 +179,7 @@ impl Terminal {
     }
 
     #[inline(always)]
-    fn feed(&mut self, byte: u8, settings: &BTreeMap<Vec<u8>, Subscriber>, pool: &mut Pool) -> Answer {
+    pub fn feed(&mut self, byte: u8, settings: &BTreeMap<Vec<u8>, Subscriber>, pool: &mut Pool) -> Answer {
         if self.ended {
             return Answer::Nothing;
         }

@@ -1,11 +1,12 @@
 -- What a front end meets at further bits, by its parts.
-use Rattle.std.proofs.Common.{◌≡◌, ℕ, ◌+◌, ◌-◌, ◌*◌, ◌/◌, ◌%◌, ◌^◌, ◌<◌, ◌≤◌, Bool, IsTrue, true, false, List, [], ◌∷◌, ◌++◌, length, length-append, length-drop, take, drop, get_or, Option, arith, refl, sym, ◌∙◌, ap, ap₂, subst, append_assoc, append-nil, inl, inr, add-one, bit_or}
+use Rattle.std.proofs.Common.{◌≡◌, ℕ, zero, suc, ◌+◌, ◌-◌, ◌*◌, ◌/◌, ◌%◌, ◌^◌, ◌<◌, ◌≤◌, Bool, IsTrue, true, false, List, [], ◌∷◌, ◌++◌, length, length-append, length-drop, take, drop, get_or, Option, arith, refl, sym, ◌∙◌, ap, ap₂, subst, append_assoc, append-nil, inl, inr, add-one, bit_or}
 use Rattle.std.proofs.lemmas.Bool.{both_ways, cases_lt}
 use Rattle.std.proofs.Math.Seq.{take-suc, take-append_seam, take-append-add}
 use Rattle.bits.specs.Bits.{bits_of, number, number_from}
 use Rattle.bits.proofs.Bytes.{bits_of-add}
 use Rattle.bits.proofs.Lengths.{length-bits_of}
 use Rattle.bits.proofs.Numbers.{bits_of-number_from, number_from-bits_of, number-bits_of, number-lt}
+use Rattle.receiver.specs.Places.{NoSyncBefore}
 use Rattle.receiver.specs.Registers.{last_32}
 use Rattle.receiver.specs.Stretches.{is_sync, after_sync}
 use Rattle.receiver.specs.Heard.{HeardPage}
@@ -229,7 +230,7 @@ window_word r p n k small lt h =
 last_of_full : (kept : List Bool) → length kept ≡ 32 → last_32 kept ≡ kept
 last_of_full kept full = let z : length kept - 32 ≡ 0 = omega arith in ap (λ (n : ℕ). drop n kept) z
 
-pub scan_start : (kept piece : List Bool) → length kept ≡ 32 → HuntsOn kept (last_32 (kept ++ take 0 piece)) (take 0 piece)
+scan_start : (kept piece : List Bool) → length kept ≡ 32 → HuntsOn kept (last_32 (kept ++ take 0 piece)) (take 0 piece)
 scan_start kept piece full bits h =
     let e : last_32 (kept ++ []) ≡ kept = ap last_32 (append-nil kept) ∙ last_of_full kept full in
     rw (e, append-nil bits) h
@@ -250,7 +251,7 @@ full_window kept piece k full =
     let d = length-drop (length (kept ++ take k piece) - 32) (kept ++ take k piece) in
     omega arith
 
-pub scan_next : (kept piece : List Bool) (k : ℕ) → length kept ≡ 32 → k < length piece → HuntsOn kept (last_32 (kept ++ take k piece)) (take k piece)
+scan_next : (kept piece : List Bool) (k : ℕ) → length kept ≡ 32 → k < length piece → HuntsOn kept (last_32 (kept ++ take k piece)) (take k piece)
     → is_sync (number (last_32 (kept ++ take (k + 1) piece))) ≡ false → HuntsOn kept (last_32 (kept ++ take (k + 1) piece)) (take (k + 1) piece)
 scan_next kept piece k full lt on bad bits h =
     let b = get_or piece k false in
@@ -319,6 +320,18 @@ scan_all kept next piece left is on e =
       on = λ (f : false ≡ false). (rw (is, t.1) on, e ∙ drop_all (length piece) piece (omega arith));
       finds = λ (f : false ≡ true). cc;
     }
+
+-- where none of the words that end in the first k bits of the piece is near the sync word
+pub scan_past : (kept piece : List Bool) (window p count : ℕ) → length kept ≡ 32 → bits_of (length piece) p ≡ piece → p < 2 ^ length piece
+    → window ≡ number kept * 2 ^ length piece + p → count ≡ length piece → (k : ℕ) → k ≤ length piece → NoSyncBefore window count k
+    → HuntsOn kept (last_32 (kept ++ take k piece)) (take k piece)
+scan_past kept piece window p count full is lt w n zero le none = scan_start kept piece full
+scan_past kept piece window p count full is lt w n (suc k) le none =
+    let at : count - 1 - k ≡ length piece - (k + 1) = omega arith in
+    let before = scan_past kept piece window p count full is lt w n k (omega arith) (λ j h. none j (omega arith)) in
+    let low = scan_low kept piece window p k (count - 1 - k) full is lt w (omega arith) at in
+    subst (λ (j : ℕ). HuntsOn kept (last_32 (kept ++ take j piece)) (take j piece)) (add-one k)
+    (scan_next kept piece k full (omega arith) before (sym (ap is_sync low) ∙ none k (omega arith)))
 
 pub scan_window : (kept piece : List Bool) (r count p : ℕ) → r ≡ number kept → count ≡ length piece → length kept ≡ 32 → p < 2 ^ length piece → count ≤ 32
     → bit_or (r * 2 ^ count % 18446744073709551616) p ≡ number kept * 2 ^ length piece + p

@@ -1,11 +1,10 @@
 -- Further bits to a front end: each event.
-use Rattle.std.proofs.Common.{◌≡◌, ℕ, ◌<◌, ◌%◌, Bool, List, [], ◌∷◌, ◌++◌, length, Option, Some, None, refl, sym, ◌∙◌, ap, append_assoc, append-nil}
+use Rattle.std.proofs.Common.{◌≡◌, ℕ, ◌%◌, Bool, List, [], ◌∷◌, ◌++◌, length, Option, Some, None, refl, sym, ◌∙◌, ap, append_assoc, append-nil}
 use Rattle.receiver.specs.Stretches.{first_words, words_of_bits}
 use Rattle.receiver.specs.Locks.{Lock, Hunts, LockHolds}
-use Rattle.receiver.specs.Fronts.{FrontEnd, Hunt, Locking, HuntsAt, LocksAt, FrontIsAt}
+use Rattle.receiver.specs.Fronts.{Hunt, Locking, HuntsAt, LocksAt, FrontIsAt}
 use Rattle.receiver.specs.declared.front.HuntStep.TheVariants.{Still as HuntStill, Found}
 use Rattle.receiver.specs.declared.front.LockStep.TheVariants.{Still as LockStill, Slot as LockSlot, Batch as LockBatch, Lost as LockLost}
-use Rattle.receiver.specs.declared.front.FrontEvent.{FrontEvent}
 use Rattle.receiver.specs.declared.front.FrontEvent.TheVariants.{Still, Batch, Slot, Lost}
 use Rattle.receiver.specs.FrontSteps.{HasSyncWord, FrontGoesOn}
 use Rattle.receiver.specs.Steps.{HuntGoesOn, LockGoesOn}

@@ -18,3 +18,4 @@ pub mod Shown
 pub mod Slots
 pub mod Stretches
 pub mod Windows
+pub mod WrongBits

@@ -6,6 +6,7 @@ pub mod Heard
 pub mod Last
 pub mod Listeners
 pub mod Locks
+pub mod Places
 pub mod Receivers
 pub mod Registers
 pub mod Shown

@@ -3,6 +3,7 @@ use Rattle.std.specs.Prelude.{ℕ, zero, suc, ◌==◌, ◌%◌, Bool, false, �
 use Rattle.std.specs.List.{list_any, range_with_len}
 use Rattle.std.specs.Map.{lookup}
 use Rattle.std.specs.Int.{bit_at}
+use Rattle.receiver.specs.declared.marks.TheConstants.{MARKS}
 
 -- the receiver of this number is paired with this capcode
 abbrev pub is_paired : List (ℕ × ℕ) → ℕ → ℕ → Bool
@@ -44,4 +45,4 @@ numbers_in set = numbers_from set 1 most_receivers
 
 -- a number has a mark: the one at the place that its twelve lowest bits say
 abbrev pub is_marked : List Bool → ℕ → Bool
-is_marked marks number = slice_index_or marks (number % 4096) false
+is_marked marks number = slice_index_or marks (number % MARKS) false

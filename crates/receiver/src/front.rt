@@ -4,6 +4,7 @@ ghost use Rattle.std.specs.Prelude.{◌≡◌, ◌%◌, length, ℕ, [], ◌∷�
 ghost use Rattle.receiver.specs.Steps.{HuntsThrough};
 ghost use Rattle.receiver.specs.Stretches.{is_sync as is_sync_of};
 
+use crate::places::{first_sync, low_word};
 use crate::register::Register;
 use bch31::distance;
 use codeword::{SLOTS, SYNC};
@@ -308,7 +309,7 @@ fn find_sync(register: &mut Register, piece: &mut Piece) -> bool
     false
 }
 
-/// The same where the register is full: it looks at each word of the register and the piece together.
+/// The same where the register is full: it looks at the words of the register and the piece together.
 #[inline(always)]
 fn scan(register: &mut Register, piece: &mut Piece) -> bool
     requires { length register.old ≡ 32 }
@@ -316,28 +317,22 @@ fn scan(register: &mut Register, piece: &mut Piece) -> bool
 {
     let count = piece.len();
     let window = (u64::from(register.word()) << count) | piece.number();
-    for k in 0..count {
-        if is_sync(low_word(window >> (count - 1 - k))) {
+    match first_sync(window, count) {
+        Some(k) => {
             piece.skip(k + 1);
-            return true;
+            true
+        }
+        None => {
+            register.hold(low_word(window));
+            piece.skip(count);
+            false
         }
     }
-    register.hold(low_word(window));
-    piece.skip(count);
-    false
-}
-
-/// The lowest 32 bits.
-#[inline(always)]
-fn low_word(window: u64) -> u32
-    ensures { result ≡ window % 4294967296 }
-{
-    (window % (1 << 32)) as u32
 }
 
 /// Whether the word differs from SYNC in at most two bits.
 #[inline(always)]
-fn is_sync(word: u32) -> bool
+pub(crate) fn is_sync(word: u32) -> bool
     ensures { result ≡ is_sync_of word }
 {
     distance(word, SYNC) <= SYNC_TOLERANCE

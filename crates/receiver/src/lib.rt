@@ -7,6 +7,7 @@
 //!
 //! - `front`: the hunt and the lock, each a state that a bit takes to the next, and the front end that is one or the other.
 //! - `register`: the last bits that came.
+//! - `places`: the words of a window of 64 bits, and the first that is near the sync word.
 //! - `gathering`: the page under way, and the page that the last bit completed.
 //! - `ready`: what is answered of a page that is complete.
 //! - `receiver`: a receiver of one to four capcodes.
@@ -23,6 +24,7 @@ pub mod gathering;
 pub mod group;
 pub mod laws;
 mod marks;
+mod places;
 pub mod ready;
 pub mod receiver;
 mod register;

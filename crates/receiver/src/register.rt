@@ -9,7 +9,7 @@ use std::marker::Model;
 use wires::piece::Piece;
 
 /// The bits of a word.
-const WORD_BITS: u32 = 32;
+pub(crate) const WORD_BITS: u32 = 32;
 
 /// The last bits that came, at most 32.
 #[derive(Drop)]
