@@ -10,5 +10,6 @@ pub mod Hearing
 pub mod Listed
 pub mod Members
 pub mod NearNoise
+pub mod NearParts
 pub mod Runs
 pub mod WordNoises

@@ -46,7 +46,7 @@ length-heard near k (u ∷ us) (w ∷ ws) h = ap suc (length-heard near (suc k) 
 abbrev pub word_at : ℕ → List Bool → List Bool
 word_at k bits = take 32 (drop (32 * k) bits)
 
-word_at-later : (k : ℕ) (bits : List Bool) → word_at (suc k) bits ≡ word_at k (drop 32 bits)
+pub word_at-later : (k : ℕ) (bits : List Bool) → word_at (suc k) bits ≡ word_at k (drop 32 bits)
 word_at-later k bits =
     let e : 32 * suc k ≡ 32 + 32 * k = omega arith in
     ap (λ (n : ℕ). take 32 (drop n bits)) e ∙ ap (take 32) (sym (drop-drop (32 * k) 32 bits))
@@ -87,18 +87,18 @@ cut near k (u ∷ us) bits l h =
 
 -- ---- a copy of a transmission
 
-preamble_words : words_bits preamble ≡ preamble_bits 18
+pub preamble_words : words_bits preamble ≡ preamble_bits 18
 unfolding preamble
 preamble_words = refl
 
-length-preamble_bits : length (preamble_bits 18) ≡ 576
+pub length-preamble_bits : length (preamble_bits 18) ≡ 576
 length-preamble_bits = length-words_bits (replicate 18 filler)
 
-word_behind-is : (k : ℕ) (front rest : List Bool) → length front ≡ 576 → word_behind k (front ++ rest) ≡ word_at k rest
+pub word_behind-is : (k : ℕ) (front rest : List Bool) → length front ≡ 576 → word_behind k (front ++ rest) ≡ word_at k rest
 word_behind-is k front rest l =
     ap (take 32) (sym (drop-drop (32 * k) 576 (front ++ rest)) ∙ ap (drop (32 * k)) (drop_at front rest 576 l))
 
-air-parts : (us : List ℕ) → words_bits (preamble ++ us) ≡ preamble_bits 18 ++ words_bits us
+pub air-parts : (us : List ℕ) → words_bits (preamble ++ us) ≡ preamble_bits 18 ++ words_bits us
 air-parts us = words_bits-append preamble us ∙ ap (λ (xs : List Bool). xs ++ words_bits us) preamble_words
 
 -- A copy of a transmission has its length and its preamble. Each word behind it is near the word as sent where it is marked so, and
