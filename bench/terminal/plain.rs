@@ -1,110 +1,16 @@
-//! A plain Rust terminal and pool of the same states as the proved ones, and the clock that times them.
+//! A plain Rust terminal of the same states as the proved one, with the plain pool, and the clock that times them.
 
+mod pool;
 #[path = "../block_reader/scanner.rs"]
 mod scanner;
 
+use pool::{Pool, Subscriber, fits};
 use scanner::{CR, ESC, ETX, End, Item, Kept, STX, Scanner, written};
 use std::collections::BTreeMap;
 use std::hint::black_box;
 use std::time::Instant;
 
 const SUB: u8 = 0x1A;
-const CELL: usize = 32;
-const NONE: u32 = u32::MAX;
-
-#[derive(Clone, Copy)]
-struct Subscriber {
-    capcode: u32,
-    alpha: bool,
-}
-
-/// As the proved one keeps it, though nothing is read back here.
-#[allow(dead_code)]
-#[derive(Clone, Copy)]
-struct Head {
-    address: Option<Subscriber>,
-    length: u32,
-    before: u32,
-    after: u32,
-    peer_before: u32,
-    peer_after: u32,
-}
-
-const NO_PAGE: Head = Head {
-    address: None,
-    length: 0,
-    before: NONE,
-    after: NONE,
-    peer_before: NONE,
-    peer_after: NONE,
-};
-
-/// The pages that wait, in a region of cells.
-struct Pool {
-    bytes: Vec<u8>,
-    links: Vec<u32>,
-    heads: Vec<Head>,
-    free: u32,
-    spare: u32,
-    first: u32,
-    last: u32,
-    frames: [(u32, u32); 8],
-}
-
-impl Pool {
-    fn new(cells: u32) -> Pool {
-        Pool {
-            bytes: vec![0; CELL * cells as usize],
-            links: (1..cells).chain([NONE]).collect(),
-            heads: vec![NO_PAGE; cells as usize],
-            free: 0,
-            spare: cells,
-            first: NONE,
-            last: NONE,
-            frames: [(NONE, NONE); 8],
-        }
-    }
-
-    fn put(&mut self, to: Subscriber, text: &[u8]) -> bool {
-        let cells = text.len().div_ceil(CELL).max(1) as u32;
-        if self.spare < cells {
-            return false;
-        }
-        let start = self.free;
-        let mut cell = start;
-        for (i, c) in text.iter().enumerate() {
-            if i > 0 && i % CELL == 0 {
-                cell = self.links[cell as usize];
-            }
-            self.bytes[CELL * cell as usize + i % CELL] = *c;
-        }
-        self.free = self.links[cell as usize];
-        self.links[cell as usize] = NONE;
-        self.spare -= cells;
-        let ends = &mut self.frames[(to.capcode % 8) as usize];
-        self.heads[start as usize] = Head {
-            address: Some(to),
-            length: text.len() as u32,
-            before: self.last,
-            after: NONE,
-            peer_before: ends.1,
-            peer_after: NONE,
-        };
-        if self.last == NONE {
-            self.first = start;
-        } else {
-            self.heads[self.last as usize].after = start;
-        }
-        if ends.1 == NONE {
-            ends.0 = start;
-        } else {
-            self.heads[ends.1 as usize].peer_after = start;
-        }
-        self.last = start;
-        ends.1 = start;
-        true
-    }
-}
 
 #[derive(Clone, Copy, PartialEq)]
 enum Answer {
@@ -224,14 +130,6 @@ fn content(content: &[u8], settings: &BTreeMap<Vec<u8>, Subscriber>, pool: &mut 
     match settings.get(id.slice()) {
         Some(to) if fits(*to, text.slice()) && pool.put(*to, text.slice()) => Answer::Ack,
         _ => Answer::Rs,
-    }
-}
-
-fn fits(to: Subscriber, text: &[u8]) -> bool {
-    if to.alpha {
-        text.len() <= 400 && text.iter().all(|c| matches!(c, 0x20..=0x7E | b'\r' | b'\n'))
-    } else {
-        text.is_empty()
     }
 }
 
