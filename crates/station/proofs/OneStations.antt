@@ -121,7 +121,7 @@ both_served : (p : Protocol) (settings address air : List ℕ) (count : ℕ) (ol
     → IsServed p settings address air count (around old) (around other) another → (another ≡ outcome) × LeftAlike new other
 both_served p settings address air count old new other outcome another fit h k =
     let same : k.parts ≡ h.parts = one_ok (settings_of (old.shelf.file settings)) h.parts k.parts h.settings_are k.settings_are in
-    let done : AtDone p h.parts h.parts.cells (with_shelf (around old) k.shelf) (around other) address air count = subst (λ (p : Parts). AtDone p p p.cells (with_shelf (around old) k.shelf) (around other) address air count) same k.done in
+    let done : AtDone p h.parts h.parts.cells (with_shelf (around old) k.shelf) (around other) address air count = subst (λ (q : Parts). AtDone p q q.cells (with_shelf (around old) k.shelf) (around other) address air count) same k.done in
     let made = done_alike p h.parts h.parts.cells count old.wire h.shelf k.shelf old.streams.out (around new) (around other) address air (fit.wire h.parts h.settings_are) h.tells k.tells (fit.out).tells h.done done in
     let files = files_alike p settings address air count (around old) (around new) (around other) outcome another h k made.sent in (
       k.outcome_is ∙ sym h.outcome_is,

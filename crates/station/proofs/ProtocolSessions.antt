@@ -1,5 +1,5 @@
 -- What holds of the sessions of each protocol: they are determined, their pages have room and are acceptable, and how much is said in them.
-use Rattle.std.proofs.Common.{◌≡◌, ℕ, ◌+◌, ◌*◌, ◌≤◌, inl, inr, cond, Bool, true, false, List, [], ◌∷◌, ◌++◌, length, length-append, map, Ok, Option, Some, refl, sym, ◌∙◌, ap, subst, arith}
+use Rattle.std.proofs.Common.{◌≡◌, ℕ, ◌+◌, ◌*◌, ◌≤◌, inl, inr, cond, Bool, true, false, List, [], ◌∷◌, ◌++◌, length, length-append, map, take, Ok, Option, Some, refl, sym, ◌∙◌, ap, subst, arith}
 use Rattle.std.specs.Prelude.{All}
 use Rattle.std.specs.FinMap.{get}
 use Rattle.std.specs.List.{sum_by}
@@ -58,8 +58,8 @@ module _ (directory : Directory) (usable : GivesUsable directory) where
   line_acceptable : (spare : ℕ) (p : Pending) (line : List ℕ) → All IsAcceptable (outcome directory spare p line).pages
   line_acceptable spare p line = elim (at_line directory spare p line) [
     | inl h ↦ subst (λ (pages : List Page). All IsAcceptable pages) (sym h.pages_are)
-    (All-cons IsAcceptable (record { capcode = h.subscriber.capcode; function = h.subscriber.function; text = h.text }) []
-    (record { usable = usable h.id h.subscriber h.known; fits = fits_from_test h.subscriber.function h.text h.suits }) (All-nil IsAcceptable))
+        (All-cons IsAcceptable (record { capcode = h.subscriber.capcode; function = h.subscriber.function; text = h.text }) []
+        (record { usable = usable h.id h.subscriber h.known; fits = fits_from_test h.subscriber.function h.text h.suits }) (All-nil IsAcceptable))
     | inr h ↦ subst (λ (pages : List Page). All IsAcceptable pages) (sym h.none) (All-nil IsAcceptable)
   ]
 
@@ -80,7 +80,7 @@ pub are_acceptable : AreAcceptable
 are_acceptable tap bytes parts spare taken session h k = All-pages parts spare taken session (IsUsable-from_settings_of bytes parts h) k
 are_acceptable snpp bytes parts spare taken session h k =
     subst (λ (s : SnppSession). All IsAcceptable s.pages) (sym k)
-    (told_acceptable (directory_of parts) (IsUsable-from_settings_of bytes parts h) (snpp_start spare) _)
+    (told_acceptable (directory_of parts) (IsUsable-from_settings_of bytes parts h) (snpp_start spare) (cut (take 999999 (map char_of taken))).pieces)
 
 -- ---- the lines that queue pages
 

@@ -48,7 +48,7 @@ served_by p address settings air count old new parts s shelf n status e k read h
   shelf = shelf;
   read = read;
   served = subst (λ (m : ℕ). HasServed p parts m (with_shelf old shelf) new address air count status) k
-      (subst (λ (p : Parts). HasServed p p n (with_shelf old shelf) new address air count status) e h);
+      (subst (λ (q : Parts). HasServed p q n (with_shelf old shelf) new address air count status) e h);
 }
 
 pub station_row : (p : Protocol) (address settings air : List ℕ) (count : ℕ) (old new : Around) (parts s : Parts) (shelf : Files) (n : ℕ) (status : Status) → s ≡ parts → n ≡ parts.cells

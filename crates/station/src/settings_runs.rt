@@ -22,10 +22,10 @@ use wires::source::Source;
 use wires::wire::Wire;
 
 /// A station with the settings of a file, or what a command comes to that has none.
-fn open_station<F: Shelf>(alloc: Global, shelf: &mut F, settings: &str) -> Result<Station, Outcome>
-    ensures { OpensStation settings.now (F.state shelf.old) (F.state shelf.new) result }
+fn open_station<F: Shelf>(alloc: Global, shelf: &mut F, name: &str) -> Result<Station, Outcome>
+    ensures { OpensStation name.now (F.state shelf.old) (F.state shelf.new) result }
 {
-    let settings = match read_settings(alloc, shelf, settings) {
+    let settings = match read_settings(alloc, shelf, name) {
         Ok(settings) => settings,
         Err(outcome) => return Err(outcome),
     };

@@ -69,7 +69,11 @@ fn each_cut_of_lines_gives_the_same_replies_and_air(rt: HostRuntime) -> Result<(
             assert_eq!(rt; left.said.as_slice(), row.said, "{name}, cut {cut}");
             assert_eq!(rt; left.out.as_slice(), row.line, "{name}, cut {cut}");
             assert!(rt; left.err.is_empty(), "{name}, cut {cut}");
-            assert_eq!(rt; left.air.as_deref(), Some(air.as_slice()), "{name}, cut {cut}");
+            assert_eq!(rt;
+                left.air.as_deref(),
+                Some(air.as_slice()),
+                "{name}, cut {cut}"
+            );
         }
     }
     Ok(())
