@@ -29,7 +29,7 @@ from pathlib import Path
 TOP = Path(__file__).resolve().parent.parent
 BUILT = TOP / "crates" / "page_tool" / "out" / "page_tool"
 DOCUMENTS = [TOP / "README.md", *sorted((TOP / "docs").glob("*.md"))]
-PORT = "127.0.0.1:2400"
+PORT = "2400"
 PATIENCE = 60  # seconds for one command
 
 
@@ -106,6 +106,11 @@ def free_port():
         return free.getsockname()[1]
 
 
+def at_port(words, port):
+    """A command with this port in place of 2400, behind the host and a colon, or a slash as in bash's /dev/tcp."""
+    return re.sub(rf"(127\.0\.0\.1[:/]){PORT}\b", rf"\g<1>{port}", words)
+
+
 def is_listening(port):
     """Whether some program listens at the port. Dialling it would take one of a station's connections."""
     table = Path("/proc/net/tcp").read_text().splitlines()[1:]
@@ -134,7 +139,7 @@ def end(process):
 
 
 def start_beside(command, port, folder):
-    process = start("exec " + command.words.rstrip("& ").replace(PORT, f"127.0.0.1:{port}"), folder)
+    process = start("exec " + at_port(command.words.rstrip("& "), port), folder)
     wait_until_listening(process, port)
     return process
 
@@ -173,7 +178,7 @@ def run_block(listed, folder, codes, tally):
         if command.is_beside:
             beside = command, start_beside(command, port, folder)
             continue
-        printed, status = end(start(command.words.replace(PORT, f"127.0.0.1:{port}"), folder))
+        printed, status = end(start(at_port(command.words, port), folder))
         wanted = command.shown
         if beside:
             (first, process), beside = beside, None

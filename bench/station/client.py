@@ -1,4 +1,4 @@
-"""Times the station over loopback. `run.sh` in this folder starts it: client.py PROGRAM FOLDER."""
+"""Times the station over loopback, by both entry lines. `run.sh` in this folder starts it: client.py PROGRAM FOLDER."""
 
 import multiprocessing
 import pathlib
@@ -15,6 +15,10 @@ GO = b"ID=\x06\r\x1b[p\r"
 GOODBYE = b"\x04\r"
 END = b"\x1b\x04\r"
 ACK = b"\x06\r"
+GREETING = b"220 pocsag\r\n"
+OK = b"250 OK\r\n"
+QUIT = b"QUIT\r\n"
+BYE = b"221 bye\r\n"
 SETTINGS = 'cells = 65536\nsubscriber = [{id = "5551234", capcode = 8, class = "alpha"}]\n'
 
 
@@ -25,6 +29,11 @@ def block(text):
     return front + bytes(0x30 + (total >> at & 15) for at in (8, 4, 0)) + b"\r"
 
 
+def lines(text):
+    """The lines of a page of SNPP, for the one subscriber."""
+    return b"PAGE 5551234\r\n", b"MESS " + text + b"\r\n", b"SEND\r\n"
+
+
 def free_address():
     """An address of this machine whose port nobody has. Each station gets one of its own: a port may stay taken after a run."""
     with socket.create_server(("127.0.0.1", 0)) as free:
@@ -32,11 +41,11 @@ def free_address():
 
 
 class Station:
-    """A station that serves so many connections. At its end it was waited for."""
+    """A station that serves so many connections, by the command `station` or `snpp`. At its end it was waited for."""
 
-    def __init__(self, connections):
+    def __init__(self, connections, command="station"):
         self.address = free_address()
-        words = [PROGRAM, "station", "%s:%d" % self.address, FOLDER / "settings.toml", FOLDER / f"air-{self.address[1]}", str(connections)]
+        words = [PROGRAM, command, "%s:%d" % self.address, FOLDER / "settings.toml", FOLDER / f"air-{self.address[1]}", str(connections)]
         self.report = FOLDER / f"report-{self.address[1]}"
         with self.report.open("w") as report:
             self.process = subprocess.Popen(words, stdout=report)
@@ -70,13 +79,23 @@ def hear(line, size):
     return heard
 
 
-def whole(text):
-    """A session of nearly 1,000,000 characters, said at once: seconds to the End, and to the end of the program."""
+def session_of(text):
+    """A session of TAP of nearly 1,000,000 characters, what is said to it, and how many pages it has."""
     one = block(text)
     count = (1_000_000 - 1 - len(LOGON) - len(GOODBYE)) // len(one)
-    session = LOGON + one * count + GOODBYE
-    wanted = GO + ACK * count + END
-    station = Station(1)
+    return LOGON + one * count + GOODBYE, GO + ACK * count + END, count
+
+
+def snpp_session_of(text):
+    """The same of SNPP."""
+    one = b"".join(lines(text))
+    count = (1_000_000 - 1 - len(QUIT)) // len(one)
+    return one * count + QUIT, GREETING + OK * (3 * count) + BYE, count
+
+
+def whole(command, session, wanted, count):
+    """A session that is said at once: seconds to the last reply, and to the end of the program."""
+    station = Station(1, command)
     line = station.dial()
     start = time.perf_counter()
     threading.Thread(target=line.sendall, args=(session,)).start()
@@ -85,7 +104,7 @@ def whole(text):
     assert heard == wanted
     line.close()
     station.ends(count)
-    return replied, time.perf_counter() - start, len(session), count
+    return replied, time.perf_counter() - start
 
 
 def in_turn(count):
@@ -106,6 +125,24 @@ def in_turn(count):
     return time.perf_counter() - start
 
 
+def snpp_in_turn(count):
+    """One session of SNPP whose lines are each said when the reply to the one before was heard: seconds."""
+    page = lines(b"HELLO")
+    station = Station(1, "snpp")
+    line = station.dial()
+    start = time.perf_counter()
+    assert hear(line, len(GREETING)) == GREETING
+    for _ in range(count):
+        for said in page:
+            line.sendall(said)
+            assert hear(line, len(OK)) == OK
+    line.sendall(QUIT)
+    assert hear(line, len(BYE)) == BYE
+    line.close()
+    station.ends(count)
+    return time.perf_counter() - start
+
+
 def side_by_side(stations, count):
     """Such sessions with so many stations at once, each with a client of its own: seconds from the start of the first to the end of the
     last."""
@@ -115,15 +152,18 @@ def side_by_side(stations, count):
         return time.perf_counter() - start
 
 
-def sessions(count):
+TAP_TURNS = ((LOGON, GO), (block(b"HELLO"), ACK), (GOODBYE, END))
+SNPP_TURNS = ((b"", GREETING), *((said, OK) for said in lines(b"HELLO")), (QUIT, BYE))
+
+
+def sessions(command, turns, count):
     """Sessions one after another, each with one page and each reply heard before more is said: seconds."""
-    one = block(b"HELLO")
-    station = Station(count)
+    station = Station(count, command)
     start = None
     for _ in range(count):
         line = station.dial()
         start = start or time.perf_counter()
-        for said, heard in ((LOGON, GO), (one, ACK), (GOODBYE, END)):
+        for said, heard in turns:
             line.sendall(said)
             assert hear(line, len(heard)) == heard
         line.close()
@@ -135,15 +175,24 @@ def sessions(count):
 print("| what | time | |")
 print("|---|---|---|")
 for text in (b"HELLO", b"x" * 241):
-    replied, ended, size, count = min(whole(text) for _ in range(TIMES))
-    what = f"a session of {size:,} characters, {count:,} blocks of {len(block(text))}, said at once"
+    session, wanted, count = session_of(text)
+    replied, ended = min(whole("station", session, wanted, count) for _ in range(TIMES))
+    what = f"a session of {len(session):,} characters, {count:,} blocks of {len(block(text))}, said at once"
     print(f"| {what} | {replied:.3f} s to the End, {ended:.3f} s to the end of the program | |")
+for text in (b"HELLO", b"x" * 241):
+    session, wanted, count = snpp_session_of(text)
+    replied, ended = min(whole("snpp", session, wanted, count) for _ in range(TIMES))
+    what = f"a session of SNPP of {len(session):,} characters, {count:,} pages in three lines each, said at once"
+    print(f"| {what} | {replied:.3f} s to the last reply, {ended:.3f} s to the end of the program | |")
 for count in (1000, 10000):
     best = min(in_turn(count) for _ in range(TIMES))
     print(f"| {count:,} blocks in one session, each said when the reply to the one before was heard | {best:.3f} s | {count / best:,.0f} pages a second |")
+best = min(snpp_in_turn(10000) for _ in range(TIMES))
+print(f"| 10,000 pages in one session of SNPP, each line said when the reply to the one before was heard | {best:.3f} s | {10000 / best:,.0f} pages a second |")
 for stations in (2, 4):
     best = min(side_by_side(stations, 10000) for _ in range(TIMES))
     pages = stations * 10000
     print(f"| {stations} stations side by side, 10,000 blocks likewise on each | {best:.3f} s | {pages / best:,.0f} pages a second |")
-best = min(sessions(1000) for _ in range(TIMES))
-print(f"| 1,000 sessions of one page, each reply heard before more is said | {best:.3f} s | {1000 / best:,.0f} sessions a second |")
+for command, turns, of in (("station", TAP_TURNS, ""), ("snpp", SNPP_TURNS, " of SNPP")):
+    best = min(sessions(command, turns, 1000) for _ in range(TIMES))
+    print(f"| 1,000 sessions{of} of one page, each reply heard before more is said | {best:.3f} s | {1000 / best:,.0f} sessions a second |")

@@ -60,7 +60,7 @@ struct Sending {
     room: u32,
     place: usize,
     before: Before,
-    text: [u8; 400],
+    text: [u8; 1000],
     length: usize,
 }
 
@@ -186,7 +186,7 @@ fn main() -> std::io::Result<()> {
     let mut noise = Noise { file: File::open(noise)?, bytes: [0; 4096], at: 0, end: 0 };
     let checks = Checks::new();
     let code = Code::new();
-    let mut sending = Sending { preamble: PREAMBLE, room: 0, place: 0, before: Before::Idle, text: [0; 400], length: 0 };
+    let mut sending = Sending { preamble: PREAMBLE, room: 0, place: 0, before: Before::Idle, text: [0; 1000], length: 0 };
     let mut pieces = Pieces::new();
     while let Some(word) = sending.next(&mut pool, &checks) {
         let mut piece = Piece { bits: word ^ noise.next()?, count: 32 };

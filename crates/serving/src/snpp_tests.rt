@@ -1,4 +1,5 @@
-//! Worked SNPP sessions over a wire in memory, in every cut, sessions whose line fails, and connections that are served one after another.
+//! SNPP sessions over a wire in memory that no goodbye ends, sessions whose line fails, and connections that are served one after another.
+//! `vectors` has the worked sessions.
 ghost use Rattle.std.specs.Prelude.{◌≡◌};
 
 use crate::serving_tests::airs;
@@ -21,19 +22,7 @@ const REFUSED: &[u8] = b"SEND\r\npage 999\r\nPAGE 5550002\r\nMESS abc\r\nSEND\r\
 /// What is heard, what is said, how the session ends, and how many pages are in the pool.
 type Row = (&'static [u8], &'static [u8], SessionEnd, u32);
 
-const ROWS: [Row; 5] = [
-    (
-        ONE_PAGE,
-        b"220 pocsag\r\n250 OK\r\n250 OK\r\n250 OK\r\n221 bye\r\n",
-        SessionEnd::Ended,
-        1,
-    ),
-    (
-        REFUSED,
-        b"220 pocsag\r\n503 incomplete\r\n550 pager\r\n250 OK\r\n250 OK\r\n554 text\r\n503 incomplete\r\n221 bye\r\n",
-        SessionEnd::Ended,
-        0,
-    ),
+const ROWS: [Row; 3] = [
     (
         b"PAGE 5551234\r\nMESS HELLO\r\n",
         b"220 pocsag\r\n250 OK\r\n250 OK\r\n",
@@ -94,14 +83,7 @@ struct Case {
     lines: &'static [u8],
 }
 
-const CASES: [Case; 3] = [
-    Case {
-        heard: &[ONE_PAGE],
-        count: 1,
-        wire: &[],
-        file: 140,
-        lines: b"snpp 1 ended pages 1 refused 0\n",
-    },
+const CASES: [Case; 2] = [
     Case {
         heard: &[REFUSED, ONE_PAGE, ONE_PAGE],
         count: 2,

@@ -4,3 +4,5 @@ pub mod Outcomes
 pub mod Sessions
 pub mod Feeds
 mod Worked
+pub mod Sends
+pub mod Bounds

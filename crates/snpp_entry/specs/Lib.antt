@@ -3,6 +3,7 @@ pub mod Replies
 pub mod Reports
 pub mod Rows
 pub mod Seen
+pub mod Sends
 pub mod Session
 pub mod State
 pub mod StateView

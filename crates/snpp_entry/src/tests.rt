@@ -1,4 +1,4 @@
-//! Worked sessions with six subscribers: what is said, and the report.
+//! Sessions with six subscribers, of lines that are refused: what is said, and the report. `vectors` has the worked sessions.
 
 ghost use Rattle.std.specs.Prelude.{◌≤◌};
 
@@ -20,30 +20,70 @@ subscriber = [
 ]
 ";
 
-/// What a row shows, what is heard, what is said behind the greeting, and the numbers of pages and of refused lines.
-const ROWS: [(&str, &[u8], &[u8], u32, u32); 3] = [
-    (
-        "a page",
-        b"PAGE 5551234\r\nMESS HELLO\r\nSEND\r\nQUIT\r\n",
-        b"250 OK\r\n250 OK\r\n250 OK\r\n221 bye\r\n",
-        1,
-        0,
-    ),
-    (
-        "refusals and a text that does not fit",
-        b"SEND\r\npage 999\r\nPAGE 5550002\r\nMESS abc\r\nSEND\r\nSEND\r\nQUIT\r\n",
-        b"503 incomplete\r\n550 pager\r\n250 OK\r\n250 OK\r\n554 text\r\n503 incomplete\r\n221 bye\r\n",
-        0,
-        4,
-    ),
+/// What a row shows, how many cells there are, what is heard, what is said behind the greeting, and the numbers of pages and of refused lines.
+type Row = (&'static str, u32, &'static [u8], &'static [u8], u32, u32);
+
+const ROWS: [Row; 7] = [
     (
         "LF alone, any case, a second PAGE",
+        64,
         b"PAGER 15\nPAGE 8\nSEND\n\nRESET x\nquit\nSEND\n",
         b"250 OK\r\n503 already entered\r\n250 OK\r\n500 command\r\n500 command\r\n221 bye\r\n",
         1,
         3,
     ),
+    (
+        "CR without LF, and two of them before it",
+        64,
+        b"PAGE 8\rSEND\nPAGE 8\r\r\nPAGE 8\r\n\rSEND\r\nSEND\r\n",
+        b"550 pager\r\n550 pager\r\n250 OK\r\n500 command\r\n250 OK\r\n",
+        1,
+        3,
+    ),
+    (
+        "NUL, and bytes above 7F, which stand for their low seven bits",
+        64,
+        b"PAGE 8\x00\nPAGE\x00 8\n\x00\n\xD0\xC1\xC7\xC5\xA0\xB8\x8D\x8A\xFF\xFE\nSEND\n",
+        b"550 pager\r\n500 command\r\n500 command\r\n250 OK\r\n500 command\r\n250 OK\r\n",
+        1,
+        4,
+    ),
+    (
+        "SEND, RESE and QUIT with an argument, and with an empty one",
+        64,
+        b"PAGE 8\nSEND now\nSEND  \nQUIT 1\nRESE 1\nSEND \nRESET \nQUIT \n",
+        b"250 OK\r\n500 command\r\n500 command\r\n500 command\r\n500 command\r\n250 OK\r\n250 OK\r\n221 bye\r\n",
+        1,
+        4,
+    ),
+    (
+        "QUIT within a line",
+        64,
+        b"x QUIT\n QUIT\nMESS QUIT\nquitter\n",
+        b"500 command\r\n500 command\r\n250 OK\r\n500 command\r\n",
+        0,
+        3,
+    ),
+    (
+        "an empty text, which fits, and one to a tone, which does not",
+        64,
+        b"PAGE 7\nMESS\nSEND\nPAGE 5550002\nMESS \nSEND\nPAGE 15\nMESS a\nSEND\n",
+        b"250 OK\r\n250 OK\r\n250 OK\r\n250 OK\r\n250 OK\r\n250 OK\r\n250 OK\r\n250 OK\r\n554 text\r\n",
+        2,
+        1,
+    ),
+    (
+        "a second page without room, and then nothing is pending",
+        1,
+        b"PAGE 7\nMESS a\nSEND\nPAGE 7\nMESS b\nSEND\nSEND\n",
+        b"250 OK\r\n250 OK\r\n250 OK\r\n250 OK\r\n250 OK\r\n554 room\r\n503 incomplete\r\n",
+        1,
+        2,
+    ),
 ];
+
+/// The most letters of a text whose line with `MESS` and a space has 1,100 characters.
+const LONGEST_TEXT: usize = 1095;
 
 /// The settings of a file.
 fn settings(alloc: Global, file: &[u8]) -> Result<Settings, Fail> {
@@ -82,17 +122,48 @@ fn said(
 fn sessions_are_answered(rt: HostRuntime) -> Result<(), Fail> {
     let alloc = rt.alloc();
     let settings = settings(alloc, SIX)?;
-    let mut pool = pool(alloc, 64)?;
     let mut session = Snpp::new();
-    for (name, heard, replies, pages, refused) in ROWS {
+    for (name, cells, heard, replies, pages, refused) in ROWS {
+        let mut pool = pool(alloc, cells)?;
         session.begin();
-        pool.clear();
         let said = said(alloc, &mut session, &settings, &mut pool, heard)?;
         assert_eq!(rt; said.as_slice(), replies, "{name}");
         let report = session.report();
         assert_eq!(rt; report.pages, pages, "{name}");
         assert_eq!(rt; report.refused, refused, "{name}");
         assert_eq!(rt; pool.count(), pages, "{name}");
+    }
+    Ok(())
+}
+
+/// What is said to MESS with so many letters, and to SEND after it, where an id is pending.
+fn said_to_letters(alloc: Global, letters: usize, end: &[u8]) -> Result<Vec<u8>, Fail> {
+    let settings = settings(alloc, SIX)?;
+    let mut pool = pool(alloc, 64)?;
+    let mut session = Snpp::new();
+    let mut heard = Vec::from_slice(alloc, b"PAGE 7\nMESS ")?;
+    for _ in 0..letters {
+        heard.push(b'A')?;
+    }
+    heard.extend_from_slice(end)?;
+    heard.extend_from_slice(b"SEND\n")?;
+    Ok(said(alloc, &mut session, &settings, &mut pool, &heard)?)
+}
+
+#[test]
+fn a_line_of_more_than_1100_characters_is_no_command(rt: HostRuntime) -> Result<(), Fail> {
+    let alloc = rt.alloc();
+    for end in [b"\r\n".as_slice(), b"\n"] {
+        let fits = said_to_letters(alloc, LONGEST_TEXT, end)?;
+        assert_eq!(rt;
+            fits.as_slice(),
+            b"250 OK\r\n250 OK\r\n554 text\r\n".as_slice()
+        );
+        let longer = said_to_letters(alloc, LONGEST_TEXT + 1, end)?;
+        assert_eq!(rt;
+            longer.as_slice(),
+            b"250 OK\r\n500 command\r\n503 incomplete\r\n".as_slice()
+        );
     }
     Ok(())
 }

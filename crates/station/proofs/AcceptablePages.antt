@@ -1,4 +1,4 @@
--- The pages of a session are acceptable.
+-- The pages of a TAP session are acceptable.
 use Rattle.std.proofs.Common.{◌≡◌, ℕ, ◌+◌, ◌++◌, Bool, true, false, cond, not, nat_lt, List, [], ◌∷◌, length, Option, Some, None, refl, sym, subst}
 use Rattle.std.specs.Prelude.{All}
 use Rattle.std.specs.FinMap.{get}
@@ -22,9 +22,8 @@ use Rattle.tap_terminal.specs.Verdict.{Verdict, by_end, fields_for, refused, roo
 use Rattle.tap_terminal.specs.declared.terminal.TheConstants.{LONGEST_CONTENT}
 use Rattle.tap_terminal.specs.declared.answers.Answer.TheVariants.{Ack, Nak}
 use Rattle.tap_terminal.specs.declared.answers.Reason.TheVariants.{Body, Content, Room, Text}
-use Rattle.station.specs.AcceptedPages.{AreAcceptable}
 use Rattle.serving.specs.TapSessions.{SessionOf}
-use Rattle.station.proofs.UsableSettings.{GivesUsable, IsUsable-from_settings_of}
+use Rattle.station.proofs.UsableSettings.{GivesUsable}
 
 -- the page, if there is one, is acceptable
 abbrev IsFine : Option Page → Type 0
@@ -99,7 +98,3 @@ pub All-pages : (settings : Parts) (spare : ℕ) (bytes : List ℕ) (session : S
     → SessionOf settings spare bytes session → All IsAcceptable session.pages
 All-pages settings spare bytes session usable h =
     subst (λ (s : Session). All IsAcceptable s.pages) (sym h.session_is) (All-tell (directory_of settings) usable (start spare) (items_of settings.password h.pieces))
-
--- each page that a session accepts under the settings of a file is acceptable
-pub are_acceptable : AreAcceptable
-are_acceptable bytes parts spare taken session h k = All-pages parts spare taken session (IsUsable-from_settings_of bytes parts h) k

@@ -1,9 +1,8 @@
--- How much room a station's air and its replies take.
-use Rattle.std.proofs.Common.{length-take, take, ◌∙◌, ◌≡◌, ℕ, suc, ◌+◌, ◌*◌, ◌/◌, ◌≤◌, Bool, true, false, cond, not, nat_lt, List, [], ◌∷◌, ◌++◌, length, length-append, map, Option, Some, None, refl, sym, ap, subst, arith}
+-- How many bits a transmission has, by the cells of its pages, and how many cells the pages of a TAP session take and how much is said in it.
+use Rattle.std.proofs.Common.{length-take, take, ◌∙◌, ◌≡◌, ℕ, ◌+◌, ◌*◌, ◌/◌, ◌≤◌, Bool, true, false, cond, not, nat_lt, List, [], ◌∷◌, ◌++◌, length, length-append, map, Option, Some, None, refl, sym, ap, subst, arith}
 use Rattle.std.proofs.lemmas.Bool.{ltb-false}
 use Rattle.std.proofs.lemmas.List.{length-map}
 use Rattle.std.proofs.lemmas.List.Sums.{sum_by-cons}
-use Rattle.std.proofs.Math.Nat.{mul-le-mul_right}
 use Rattle.std.specs.List.{cons_option, sum_by}
 use Rattle.air.specs.Air.{IsAir, batches, preamble, transmission}
 use Rattle.air.proofs.Batches.{length-batches}
@@ -34,8 +33,7 @@ use Rattle.tap_terminal.specs.Verdict.{Verdict, by_end, fields_for, refused, roo
 use Rattle.tap_terminal.specs.declared.terminal.TheConstants.{LONGEST_CONTENT}
 use Rattle.tap_terminal.specs.declared.answers.Answer.TheVariants.{Ack, Nak}
 use Rattle.tap_terminal.specs.declared.answers.Reason.TheVariants.{Body, Content, Room, Text}
-use Rattle.station.specs.AirRoom.{AirsFit, ShelfFits, WireFits, most_air}
-use Rattle.serving.specs.Served.{airs}
+use Rattle.station.specs.AirRoom.{most_air}
 use Rattle.serving.specs.TapSessions.{SessionOf}
 
 -- ---- the words of a page, by its cells
@@ -153,32 +151,9 @@ pub pages_within : (settings : Parts) (spare : ℕ) (bytes : List ℕ) (session 
 pages_within settings spare bytes session h =
     subst (λ (s : Session). sum_by cells_of s.pages ≤ spare) (sym h.session_is) (cells-tell (directory_of settings) (start spare) (items_of settings.password h.pieces))
 
--- ---- all sessions
-
-pub airs_fit : AirsFit
-airs_fit settings spare [] = omega arith
-airs_fit settings spare (s ∷ ss) =
-    let one = air_few s.ran.session.pages s.bits spare s.is_air (pages_within settings spare s.ran.fed s.ran.session s.ran.session_is) in
-    let on = airs_fit settings spare ss in
-    let both : length (s.bits ++ airs ss) ≤ 8 * most_air spare + 8 * (length ss * most_air spare) = omega (arith, length-append s.bits (airs ss), one, on) in
-    let many : 8 * (suc (length ss) * most_air spare) ≡ 8 * most_air spare + 8 * (length ss * most_air spare) = grind arith in
-    omega (arith, both, many)
-
-pub shelf_fits : ShelfFits
-shelf_fits settings spare most wire shelf name t told steady proper room = record {
-  tells = told;
-  steady = steady;
-  proper = proper;
-  told = t;
-  fits = λ now sessions after few.
-      let a = airs_fit settings spare sessions in
-      let b : length sessions * most_air spare ≤ most * most_air spare = mul-le-mul_right (most_air spare) few in
-      omega (arith, a, b, room);
-}
-
 -- ---- replies
 
-replies_few : (settings : Parts) (spare : ℕ) (bytes : List ℕ) (session : Session) → SessionOf settings spare bytes session → length (replies session.answers) ≤ 6 * length bytes + 6
+pub replies_few : (settings : Parts) (spare : ℕ) (bytes : List ℕ) (session : Session) → SessionOf settings spare bytes session → length (replies session.answers) ≤ 6 * length bytes + 6
 replies_few settings spare bytes session h =
     let x = characters bytes in
     let told = tell (directory_of settings) (start spare) (items_of settings.password h.pieces) in
@@ -190,10 +165,3 @@ replies_few settings spare bytes session h =
     let f : length (take 999999 x) ≤ length x = simp length-take (omega arith) in
     let g : length x ≡ length bytes = length-map bytes char_of in
     omega (arith, a, b, c, d, e, f, g)
-
-pub wire_fits : WireFits
-wire_fits settings spare most wire t s room = record {
-  tells = t;
-  steady = s;
-  fits = λ k from lt left session is. let a = replies_few settings spare (wire.connection k).rest session is in let b = room k from lt left in omega (arith, a, b);
-}

@@ -8,7 +8,8 @@ use Rattle.subscribers.specs.Settings.{settings_of}
 use Rattle.subscribers.specs.declared.subscriber.Subscriber.{Subscriber}
 use Rattle.subscribers.specs.Directory.{Directory, directory_of}
 use Rattle.tap_entry.specs.Client.{PageToSend}
-use Rattle.station.proofs.AcceptablePages.{are_acceptable}
+use Rattle.serving.specs.Protocols.{tap}
+use Rattle.station.proofs.ProtocolSessions.{are_acceptable}
 use Rattle.both_ends.proofs.BothEnds.{both_ends}
 use Rattle.near.proofs.NearAir.{near_air}
 use Rattle.station.specs.Delivered.{Call, Delivered, accepted_by, page_for, pages_for, sent_by}
@@ -39,7 +40,7 @@ joined-sent (call ∷ calls) = ap₂ (λ (x y : List Accepted). x ++ y) (accepte
 acceptable_by : (bytes : List ℕ) {settings : Parts} {spare : ℕ} (calls : List (Call settings spare)) → settings_of bytes ≡ Ok settings → All (All IsAcceptable) (accepted_by calls)
 acceptable_by bytes [] h = All-nil (All IsAcceptable)
 acceptable_by bytes {settings = settings} {spare = spare} (call ∷ calls) h =
-    All-cons (All IsAcceptable) call.session.pages (accepted_by calls) (are_acceptable bytes settings spare call.said call.session h call.session_is) (acceptable_by bytes calls h)
+    All-cons (All IsAcceptable) call.session.pages (accepted_by calls) (are_acceptable tap bytes settings spare call.said call.session h call.session_is) (acceptable_by bytes calls h)
 
 pub delivered : Delivered
 delivered bytes settings spare calls listens bits h usable near set f within =

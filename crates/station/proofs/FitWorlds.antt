@@ -18,7 +18,6 @@ use Rattle.tap_entry.specs.declared.faults.PagesFault.{PagesFault}
 use Rattle.tap_entry.specs.declared.faults.PagesFault.TheVariants as Pages
 use Rattle.tap_entry.specs.PagesFile.{IsFileRefused, IsWrongLine}
 use Rattle.subscribers.specs.Directory.{directory_of}
-use Rattle.tap_terminal.specs.Replies.{replies}
 use Rattle.tap_terminal.specs.Session.{Session}
 use Rattle.tap_terminal.proofs.Fronts.{session_exists}
 use Rattle.tap_terminal.proofs.Sessions.{one_session}
@@ -30,7 +29,7 @@ use Rattle.endings.specs.declared.statuses.Status.{Status}
 use Rattle.endings.specs.declared.statuses.Status.TheVariants.{Done, Usage, Settings, FileFault, WireFault, OutFault, InputFault, NotBlock, BadSum, BadText, TooLong, LogonRefused, SomeUnsent, Memory, BadPages}
 use Rattle.station.specs.AirRoom.{most_air, most_said}
 use Rattle.station.specs.AlphaPage.{alpha_page}
-use Rattle.station.specs.Commands.{Command, One, Play, PlayLine, Send, Show, Station, Trial, WriteLine}
+use Rattle.station.specs.Commands.{Command, One, Play, PlayLine, Send, Show, Snpp, Station, Trial, WriteLine}
 use Rattle.station.specs.FitWorlds.{roomy_connection, AreSteady, FitErrWithRoom, FitInMemory, FitWithRoom, HasFiles, longest_line_about, world, roomy}
 use Rattle.station.specs.LoneBlock.{HasText}
 use Rattle.station.specs.OneOutcome.{bits_listened}
@@ -45,7 +44,11 @@ use Rattle.serving.specs.TapSessions.{SessionOf}
 use Rattle.endings.specs.Statuses.{status_line}
 use Rattle.listening.specs.Table.{table_of}
 use Rattle.serving.specs.Trying.{trial_lines}
-use Rattle.station.proofs.AirRooms.{air_few, shelf_fits}
+use Rattle.station.proofs.AirRooms.{air_few}
+use Rattle.station.proofs.FitRooms.{shelf_fits}
+use Rattle.station.proofs.ProtocolSessions.{one_in}
+use Rattle.serving.proofs.Protocols.{exists_in}
+use Rattle.serving.specs.Protocols.{IsSessionIn, Protocol, SessionIn, snpp, spoken, tap}
 use Rattle.station.proofs.CallRooms.{call_fits}
 use Rattle.station.proofs.EntryNumbers.{refusal_few}
 use Rattle.air.proofs.OneAir.{one_air}
@@ -65,17 +68,17 @@ within_sum f (suc n) k lt = elim (cases_lt k n) [
 
 -- ---- what sessions and calls take
 
-abbrev replies_room : Parts → ℕ → List ℕ → ℕ
-replies_room settings spare rest = length (replies (session_exists settings.password (directory_of settings) spare (characters rest)).0.answers)
+abbrev spoken_room : Protocol → Parts → ℕ → List ℕ → ℕ
+spoken_room p settings spare rest = length (spoken p (exists_in p settings spare rest).0)
 
-replies_fit : (settings : Parts) (spare : ℕ) (rest : List ℕ) (session : Session) → SessionOf settings spare rest session → length (replies session.answers) ≤ replies_room settings spare rest
-replies_fit settings spare rest session h =
-    let some = session_exists settings.password (directory_of settings) spare (characters rest) in
-    let same : session ≡ some.0 = one_session settings.password (directory_of settings) spare (characters rest) session some.0 h some.1 in
-    omega (arith, ap (λ (s : Session). length (replies s.answers)) same)
+spoken_fits : (p : Protocol) (settings : Parts) (spare : ℕ) (rest : List ℕ) (session : SessionIn p) → IsSessionIn p settings spare rest session → length (spoken p session) ≤ spoken_room p settings spare rest
+spoken_fits p settings spare rest session h =
+    let some = exists_in p settings spare rest in
+    let same : session ≡ some.0 = one_in p settings spare rest session some.0 h some.1 in
+    omega (arith, ap (λ (s : SessionIn p). length (spoken p s)) same)
 
-abbrev wire_room : Parts → ℕ → Line → ℕ
-wire_room settings spare wire = sum_to (λ k. replies_room settings spare (wire.connection k).rest) wire.count
+abbrev wire_room : Protocol → Parts → ℕ → Line → ℕ
+wire_room p settings spare wire = sum_to (λ k. spoken_room p settings spare (wire.connection k).rest) wire.count
 
 abbrev air_of : List Page → List Bool
 air_of [] = []
@@ -93,16 +96,16 @@ one_fits capcode body text bits h a =
     let few = h.fits.short in
     air_few (alpha_page capcode text ∷ []) bits (cells_for LONGEST_TEXT) a (omega (arith, few))
 
-abbrev station_by : ℕ → Line → Result Parts SettingsFault → ℕ
-station_by count wire (Ok parts) = wire_room parts parts.cells wire + count * most_air parts.cells
-station_by count wire (Err fault) = 0
+abbrev station_by : Protocol → ℕ → Line → Result Parts SettingsFault → ℕ
+station_by p count wire (Ok parts) = wire_room p parts parts.cells wire + count * most_air parts.cells
+station_by p count wire (Err fault) = 0
 
-abbrev station_room : ℕ → Objects → List ℕ → ℕ
-station_room count old settings = station_by count old.wire (settings_of (old.shelf.file settings)) + count * longest_line
+abbrev station_room : Protocol → ℕ → Objects → List ℕ → ℕ
+station_room p count old settings = station_by p count old.wire (settings_of (old.shelf.file settings)) + count * longest_line
 
-fit_station : (address settings air : List ℕ) (count : ℕ) (old : Objects) → AreSteady old → HasFiles (Some (Station address settings air count)) old → (room : ℕ) → station_room count old settings ≤ room
-    → FitStation settings air count (around (roomy room old))
-fit_station address settings air count old s h room le = record {
+fit_station : (p : Protocol) (address settings air : List ℕ) (count : ℕ) (old : Objects) → AreSteady old → HasFiles (Some (Station address settings air count)) old → (room : ℕ) → station_room p count old settings ≤ room
+    → FitStation p settings air count (around (roomy room old))
+fit_station p address settings air count old s h room le = record {
   tells = s.shelf_tells;
   steady = s.shelf_steady;
   there = h.0;
@@ -110,11 +113,11 @@ fit_station address settings air count old s h room le = record {
     tells = s.wire_tells;
     steady = s.wire_steady;
     fits = λ k from next lt session is.
-        let a = replies_fit parts parts.cells (old.wire.connection k).rest session is in
-        let b = within_sum (λ j. replies_room parts parts.cells (old.wire.connection j).rest) old.wire.count k lt in
-        omega (arith, a, b, le, ap (station_by count old.wire) e);
+        let a = spoken_fits p parts parts.cells (old.wire.connection k).rest session is in
+        let b = within_sum (λ j. spoken_room p parts parts.cells (old.wire.connection j).rest) old.wire.count k lt in
+        omega (arith, a, b, le, ap (station_by p count old.wire) e);
   };
-  shelf = λ parts e. shelf_fits parts parts.cells count (roomy room old).wire (roomy room old).shelf air s.wire_tells s.shelf_tells s.shelf_steady h.1 (omega (arith, le, ap (station_by count old.wire) e));
+  shelf = λ parts e. shelf_fits p parts parts.cells count (roomy room old).wire (roomy room old).shelf air s.wire_tells s.shelf_tells s.shelf_steady h.1 (omega (arith, le, ap (station_by p count old.wire) e));
   out = record { tells = s.out_tells; steady = s.out_steady; fits = omega (arith, le) };
 }
 
@@ -188,7 +191,8 @@ fit_with_room (Some (PlayLine line receivers)) old s h =
 fit_with_room (Some (WriteLine air line seed)) old s h =
     (8 * length (old.shelf.file air), λ room le. record { tells = s.shelf_tells; steady = s.shelf_steady; there = h.0; fresh = h.1; room = le })
 fit_with_room (Some (Show air)) old s h = (length (table_of (bits_listened air old.shelf)), λ room le. (record { tells = s.shelf_tells; steady = s.shelf_steady; there = h }, record { tells = s.out_tells; steady = s.out_steady; room = le }))
-fit_with_room (Some (Station address settings air count)) old s h = (station_room count old settings, λ room le. fit_station address settings air count old s h room le)
+fit_with_room (Some (Station address settings air count)) old s h = (station_room tap count old settings, λ room le. fit_station tap address settings air count old s h room le)
+fit_with_room (Some (Snpp address settings air count)) old s h = (station_room snpp count old settings, λ room le. fit_station snpp address settings air count old s h room le)
 fit_with_room (Some (Trial settings noise receivers)) old s h = (trial_room receivers old settings noise, λ room le. fit_trial settings noise receivers old s h room le)
 fit_with_room (Some (Send address pages)) old s h = (send_room (old.wire.connection old.wire.opened).rest, λ room le. fit_send address pages old s h room le)
 
@@ -246,6 +250,9 @@ err_few (Some (Show air)) old new (Misread fault) h = elim h [ ]
 err_few (Some (Station address settings air count)) old new (Ended status) h = let a = status_few status in omega (arith, a)
 err_few (Some (Station address settings air count)) old new (Refused fault) h = refusal_few h.row.0.seen fault h.row.0.of_seen
 err_few (Some (Station address settings air count)) old new (Misread fault) h = elim h.row [ ]
+err_few (Some (Snpp address settings air count)) old new (Ended status) h = let a = status_few status in omega (arith, a)
+err_few (Some (Snpp address settings air count)) old new (Refused fault) h = refusal_few h.row.0.seen fault h.row.0.of_seen
+err_few (Some (Snpp address settings air count)) old new (Misread fault) h = elim h.row [ ]
 err_few (Some (Trial settings noise receivers)) old new (Ended status) h = let a = status_few status in omega (arith, a)
 err_few (Some (Trial settings noise receivers)) old new (Refused fault) h = refusal_few h.row.0.seen fault h.row.0.of_seen
 err_few (Some (Trial settings noise receivers)) old new (Misread fault) h = elim h.row [ ]
@@ -271,6 +278,7 @@ has_files (Some (PlayLine line receivers)) heard input file = refl
 has_files (Some (WriteLine air line seed)) heard input file = (refl, inl refl)
 has_files (Some (Show air)) heard input file = refl
 has_files (Some (Station address settings air count)) heard input file = (refl, inl refl)
+has_files (Some (Snpp address settings air count)) heard input file = (refl, inl refl)
 has_files (Some (Trial settings noise receivers)) heard input file = (refl, refl)
 has_files (Some (Send address pages)) heard input file = (refl, omega arith)
 

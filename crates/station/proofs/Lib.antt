@@ -28,6 +28,8 @@ pub mod OneStations
 pub mod OneTrials
 pub mod OneSends
 pub mod AirRooms
+pub mod ProtocolSessions
+pub mod FitRooms
 pub mod CallRooms
 pub mod OneCommands
 pub mod OneRuns

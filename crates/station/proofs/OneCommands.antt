@@ -1,6 +1,6 @@
 -- Words are one command's at most.
 use Rattle.std.proofs.Common.{◌≡◌, ℕ, ◌+◌, List, [], ◌∷◌, Option, Some, None, get_or, length, refl, sym, ◌∙◌, ap, ap₂, arith}
-use Rattle.station.specs.Commands.{AreCommand, AreLine, AreOne, ArePlay, AreSend, AreShow, AreStation, AreTrial, Command, IsCommand, IsReceiverWord, One, Play, PlayLine, Say, Send, Show, Station, Trial, WriteLine}
+use Rattle.station.specs.Commands.{AreCommand, AreLine, AreOne, ArePlay, AreSend, AreShow, AreStation, AreTrial, Command, IsCommand, IsReceiverWord, One, Play, PlayLine, Say, Send, Show, Snpp, Station, Trial, WriteLine}
 use Rattle.station.proofs.ListedCapcodes.{one_receiver}
 use Rattle.station.proofs.Saying.{Say-one}
 
@@ -12,6 +12,7 @@ mark (PlayLine line receivers) = 117
 mark (WriteLine air line seed) = 109
 mark (Show air) = 108
 mark (Station address settings air count) = 123
+mark (Snpp address settings air count) = 114
 mark (Trial settings noise receivers) = 119
 mark (Send address pages) = 105
 
@@ -23,6 +24,7 @@ mark_is name words (PlayLine line receivers) h = ap (λ (l : List ℕ). get_or l
 mark_is name words (WriteLine air line seed) h = ap (λ (l : List ℕ). get_or l 1 0 + length l) h.0
 mark_is name words (Show air) h = ap (λ (l : List ℕ). get_or l 1 0 + length l) h.0
 mark_is name words (Station address settings air count) h = ap (λ (l : List ℕ). get_or l 1 0 + length l) h.0
+mark_is name words (Snpp address settings air count) h = ap (λ (l : List ℕ). get_or l 1 0 + length l) h.0
 mark_is name words (Trial settings noise receivers) h = ap (λ (l : List ℕ). get_or l 1 0 + length l) h.0
 mark_is name words (Send address pages) h = ap (λ (l : List ℕ). get_or l 1 0 + length l) h.0
 
@@ -67,14 +69,14 @@ one_trial (w ∷ []) s s2 n n2 rs rs2 h k = elim h [ ]
 one_trial (w ∷ v ∷ words) s s2 n n2 rs rs2 h k =
     ap₂ (λ (a b : List ℕ). Trial a b rs2) (sym k.0 ∙ h.0) (sym k.1 ∙ h.1) ∙ ap (Trial s n) (one_receivers words rs rs2 h.4.say k.4.say)
 
-one_station : (words : List (List ℕ)) (a a2 s s2 f f2 : List ℕ) (n n2 : ℕ) → AreStation words a s f n → AreStation words a2 s2 f2 n2 → Station a2 s2 f2 n2 ≡ Station a s f n
-one_station [] a a2 s s2 f f2 n n2 h k = elim h [ ]
-one_station (w ∷ []) a a2 s s2 f f2 n n2 h k = elim h [ ]
-one_station (w ∷ v ∷ []) a a2 s s2 f f2 n n2 h k = elim h [ ]
-one_station (w ∷ v ∷ u ∷ []) a a2 s s2 f f2 n n2 h k = elim h [ ]
-one_station (w ∷ v ∷ u ∷ t ∷ []) a a2 s s2 f f2 n n2 h k =
-    ap₂ (λ (x y : List ℕ). Station x y f2 n2) (sym k.0 ∙ h.0) (sym k.1 ∙ h.1) ∙ ap₂ (λ (x : List ℕ) (m : ℕ). Station a s x m) (sym k.2 ∙ h.2) (k.6.value ∙ sym h.6.value)
-one_station (w ∷ v ∷ u ∷ t ∷ r ∷ words) a a2 s s2 f f2 n n2 h k = elim h [ ]
+one_station : (made : List ℕ → List ℕ → List ℕ → ℕ → Command) (words : List (List ℕ)) (a a2 s s2 f f2 : List ℕ) (n n2 : ℕ) → AreStation words a s f n → AreStation words a2 s2 f2 n2 → made a2 s2 f2 n2 ≡ made a s f n
+one_station made [] a a2 s s2 f f2 n n2 h k = elim h [ ]
+one_station made (w ∷ []) a a2 s s2 f f2 n n2 h k = elim h [ ]
+one_station made (w ∷ v ∷ []) a a2 s s2 f f2 n n2 h k = elim h [ ]
+one_station made (w ∷ v ∷ u ∷ []) a a2 s s2 f f2 n n2 h k = elim h [ ]
+one_station made (w ∷ v ∷ u ∷ t ∷ []) a a2 s s2 f f2 n n2 h k =
+    ap₂ (λ (x y : List ℕ). made x y f2 n2) (sym k.0 ∙ h.0) (sym k.1 ∙ h.1) ∙ ap₂ (λ (x : List ℕ) (m : ℕ). made a s x m) (sym k.2 ∙ h.2) (k.6.value ∙ sym h.6.value)
+one_station made (w ∷ v ∷ u ∷ t ∷ r ∷ words) a a2 s s2 f f2 n n2 h k = elim h [ ]
 
 one_some : (words : List (List ℕ)) (a b : Command) → IsCommand words a → IsCommand words b → b ≡ a
 unfolding mark
@@ -84,7 +86,8 @@ one_some (name ∷ words) (Play a c) (Play b d) h k = one_play words a b c d h.1
 one_some (name ∷ words) (PlayLine a c) (PlayLine b d) h k = one_play_line words a b c d h.1 k.1
 one_some (name ∷ words) (WriteLine a l s) (WriteLine a2 l2 s2) h k = one_line words a a2 l l2 s s2 h.1 k.1
 one_some (name ∷ words) (Show a) (Show b) h k = one_show words a b h.1 k.1
-one_some (name ∷ words) (Station a s f n) (Station a2 s2 f2 n2) h k = one_station words a a2 s s2 f f2 n n2 h.1 k.1
+one_some (name ∷ words) (Station a s f n) (Station a2 s2 f2 n2) h k = one_station Station words a a2 s s2 f f2 n n2 h.1 k.1
+one_some (name ∷ words) (Snpp a s f n) (Snpp a2 s2 f2 n2) h k = one_station Snpp words a a2 s s2 f f2 n n2 h.1 k.1
 one_some (name ∷ words) (Trial s n c) (Trial s2 n2 c2) h k = one_trial words s s2 n n2 c c2 h.1 k.1
 one_some (name ∷ words) (Send a p) (Send b q) h k = one_send words a b p q h.1 k.1
 one_some (name ∷ words) a b h k = let e = mark_is name words a h in let f = mark_is name words b k in absurd (omega (arith, e, f))

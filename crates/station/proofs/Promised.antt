@@ -3,17 +3,13 @@ use Rattle.std.proofs.Common.{◌≡◌, ℕ, ◌+◌, ◌≤◌, ◌==◌, Bool
 use Rattle.std.proofs.lemmas.List.{length-take, take-append-drop, take-map}
 use Rattle.std.proofs.lemmas.List.Elements.{All-nil, All-cons, All-head, All-tail}
 use Rattle.std.specs.Prelude.{◌⊎◌, IsTrue, All}
-use Rattle.std.specs.List.{concat}
+use Rattle.std.specs.List.{AllByRecursion, concat}
 use Rattle.std.proofs.lemmas.List.Folds.{list_any-append}
 use Rattle.bits.specs.Bits.{bytes_bits, xor}
 use Rattle.codeword.specs.Capcodes.{IsUsable}
 use Rattle.page_text.specs.Page.{Page, IsAcceptable}
 use Rattle.subscribers.specs.Parts.{Parts}
-use Rattle.subscribers.specs.Directory.{directory_of}
 use Rattle.subscribers.specs.Settings.{settings_of}
-use Rattle.tap_block.specs.Chars.{characters}
-use Rattle.tap_terminal.specs.Session.{Session}
-use Rattle.tap_terminal.proofs.Sessions.{one_session}
 use Rattle.air.proofs.Near.{near-airs}
 use Rattle.air.specs.Air.{IsAir}
 use Rattle.air.specs.Near.{IsAirs, Near}
@@ -27,19 +23,19 @@ use Rattle.wires.specs.Line.{Line}
 use Rattle.wires.specs.Stacked.{noisy_bits}
 use Rattle.wires.specs.Written.{Written}
 use Rattle.sampler.proofs.Line.{line_back}
-use Rattle.station.proofs.AcceptablePages.{are_acceptable}
+use Rattle.station.proofs.ProtocolSessions.{are_acceptable, one_in, queued_at_sends}
 use Rattle.station.proofs.Pairs.{has-listed}
 use Rattle.near.proofs.NearAir.{near_air}
 use Rattle.serving.proofs.WholeSessions.{turn-wholes}
 use Rattle.station.specs.declared.outcomes.Outcome.{Outcome}
 use Rattle.station.specs.declared.outcomes.Outcome.TheVariants.{Ended, Misread, Refused}
 use Rattle.endings.specs.declared.statuses.Status.TheVariants.{Done, FileFault, OutFault, Usage, WireFault}
-use Rattle.station.specs.Commands.{AreCommand, Command, IsCapcodeWord, IsReceiverWord, One, Play, PlayLine, Say, Send, Show, Station, Trial, WriteLine, plus_parts}
+use Rattle.station.specs.Commands.{AreCommand, Command, IsCapcodeWord, IsReceiverWord, One, Play, PlayLine, Say, Send, Show, Snpp, Station, Trial, WriteLine, plus_parts}
 use Rattle.near.specs.NearAir.{AreUsable}
-use Rattle.station.specs.Promises.{AcceptedWhileFit, AreAccepted, FaultPromise, FilePromise, HearLists, HearNear, HearNearLine, HearsTrial, ServedSend, StationPromise, TrialPromise, accepted_in}
+use Rattle.station.specs.Promises.{AcceptedWhileFit, AreAccepted, FaultPromise, FilePromise, HearLists, HearNear, HearNearLine, HearsTrial, QueuedAtSends, ServedSend, StationPromise, TrialPromise, accepted_in}
 use Rattle.station.specs.ReadFile.{ReadSettings, Unreadable}
 use Rattle.station.specs.Rows.{Acts, Objects, Promises}
-use Rattle.serving.specs.Protocols.{tap}
+use Rattle.serving.specs.Protocols.{Protocol, SessionIn, queued_in, snpp, tap}
 use Rattle.serving.specs.Served.{AllFrom, IsWhole, Served, ServedInTurn, airs}
 use Rattle.serving.specs.Serving.{Around, AtAppendFault, AtFreshFault}
 use Rattle.station.specs.StationRows.{AreFileBits, LeavesWireAndOut, ServedBy, StationRow, TrialRow, with_shelf}
@@ -124,46 +120,51 @@ trial_promise settings noise receivers input0 input old new out0 out (Ended Done
     let b = file_same noise old row.shelf row.tried.bits settings row.parts row.read row.tried.bits_are t in
     let s = row.tried.tries.tried in
     hears_trial receivers s.session.pages s.air row.tried.tries.flips (bytes_bits (old.file noise)) u
-    (are_acceptable (old.file settings) row.parts row.parts.cells s.taken s.session (row.read.settings_are t) s.session_is)
+    (are_acceptable tap (old.file settings) row.parts row.parts.cells s.taken s.session (row.read.settings_are t) s.session_is)
     s.is_air (row.tried.tries.of_noise b.0 ∙ ap (noisy_bits s.air) b.1)
 trial_promise settings noise receivers input0 input old new out0 out (Ended Usage) row u = tt
 trial_promise settings noise receivers input0 input old new out0 out (Ended status) row u = tt
 
 -- ---- sessions that were served
 
-airs_of : {settings : Parts} {spare : ℕ} (sessions : List (Served tap settings spare)) → IsAirs (accepted_in sessions) (airs sessions)
+airs_of : {p : Protocol} {settings : Parts} {spare : ℕ} (sessions : List (Served p settings spare)) → IsAirs (accepted_in sessions) (airs sessions)
 unfolding IsAirs
 airs_of [] = refl
 airs_of (s ∷ sessions) = (s.bits, airs sessions, s.is_air, airs_of sessions, refl)
 
-acceptable_in : (bytes : List ℕ) {settings : Parts} {spare : ℕ} (sessions : List (Served tap settings spare)) → settings_of bytes ≡ Ok settings → All (All IsAcceptable) (accepted_in sessions)
+acceptable_in : (bytes : List ℕ) {p : Protocol} {settings : Parts} {spare : ℕ} (sessions : List (Served p settings spare)) → settings_of bytes ≡ Ok settings → All (All IsAcceptable) (accepted_in sessions)
 acceptable_in bytes [] h = All-nil (All IsAcceptable)
-acceptable_in bytes {settings = settings} {spare = spare} (s ∷ sessions) h =
-    All-cons (All IsAcceptable) s.ran.session.pages (accepted_in sessions) (are_acceptable bytes settings spare s.ran.fed s.ran.session h s.ran.session_is)
+acceptable_in bytes {p = p} {settings = settings} {spare = spare} (s ∷ sessions) h =
+    All-cons (All IsAcceptable) (queued_in p s.ran.session) (accepted_in sessions) (are_acceptable p bytes settings spare s.ran.fed s.ran.session h s.ran.session_is)
     (acceptable_in bytes sessions h)
 
 -- the pages that whole sessions accepted
-accepted_from : {settings : Parts} {spare : ℕ} (first now : Line) (k : ℕ) (sessions : List (Served tap settings spare)) → AllFrom (IsWhole first now) k sessions → AllFrom (AreAccepted settings spare first) k (accepted_in sessions)
+accepted_from : {p : Protocol} {settings : Parts} {spare : ℕ} (first now : Line) (k : ℕ) (sessions : List (Served p settings spare)) → AllFrom (IsWhole first now) k sessions → AllFrom (AreAccepted p settings spare first) k (accepted_in sessions)
 accepted_from first now k [] h = tt
-accepted_from {settings} {spare} first now k (s ∷ sessions) h = (
-  λ session is. ap (λ (z : Session). z.pages) (one_session settings.password (directory_of settings) spare (characters (first.connection k).rest) session s.ran.session is (h.0).session_is),
+accepted_from {p} {settings} {spare} first now k (s ∷ sessions) h = (
+  λ session is. ap (λ (z : SessionIn p). queued_in p z) (one_in p settings spare (first.connection k).rest session s.ran.session is (h.0).session_is),
   accepted_from first now (k + 1) sessions h.1,
 )
 
 -- the first sessions of those that were served in turn
-accepted_while : {settings : Parts} {spare : ℕ} (first now : Line) (sessions more : List (Served tap settings spare)) → ServedInTurn first now (sessions ++ more) → IsTrue first.tells → IsTrue first.steady
-    → AcceptedWhileFit settings spare first (accepted_in sessions)
-accepted_while {settings} {spare} first now sessions more h t st n fit =
+accepted_while : {p : Protocol} {settings : Parts} {spare : ℕ} (first now : Line) (sessions more : List (Served p settings spare)) → ServedInTurn first now (sessions ++ more) → IsTrue first.tells → IsTrue first.steady
+    → AcceptedWhileFit p settings spare first (accepted_in sessions)
+accepted_while {p} {settings} {spare} first now sessions more h t st n fit =
     let cut : take n sessions ++ (drop n sessions ++ more) ≡ sessions ++ more =
-    sym (append_assoc (take n sessions) (drop n sessions) more) ∙ ap (λ (l : List (Served tap settings spare)). l ++ more) (take-append-drop n sessions) in
-    let turn = subst (λ (l : List (Served tap settings spare)). ServedInTurn first now l) (sym cut) h in
+    sym (append_assoc (take n sessions) (drop n sessions) more) ∙ ap (λ (l : List (Served p settings spare)). l ++ more) (take-append-drop n sessions) in
+    let turn = subst (λ (l : List (Served p settings spare)). ServedInTurn first now l) (sym cut) h in
     let few : length (take n sessions) ≤ n = simp length-take (omega arith) in
     let whole = turn-wholes first now (take n sessions) (drop n sessions ++ more) turn t st (λ k from lt. fit k from (omega (arith, lt, few))) in
-    subst (λ (l : List (List Page)). AllFrom (AreAccepted settings spare first) first.opened l) (sym (take-map (λ (s : Served tap settings spare). s.ran.session.pages) n sessions))
+    subst (λ (l : List (List Page)). AllFrom (AreAccepted p settings spare first) first.opened l) (sym (take-map (λ (s : Served p settings spare). queued_in p s.ran.session) n sessions))
     (accepted_from first now first.opened (take n sessions) whole)
 
+-- each SEND that was answered 250 queued a page
+all_queued : {p : Protocol} {settings : Parts} {spare : ℕ} (sessions : List (Served p settings spare)) → AllByRecursion (λ (s : Served p settings spare). QueuedAtSends p s.ran.fed s.ran.session) sessions
+all_queued [] = tt
+all_queued {p} {settings} {spare} (s ∷ sessions) = (queued_at_sends p settings spare s.ran.fed s.ran.session s.ran.session_is, all_queued sessions)
+
 -- what sessions send that were served by the settings of a file
-served_send : (bytes : List ℕ) {settings : Parts} {spare : ℕ} (old : Around) (now : Line) (sessions more : List (Served tap settings spare)) → ServedInTurn old.wire now (sessions ++ more) → (IsTrue old.shelf.tells → settings_of bytes ≡ Ok settings)
+served_send : (bytes : List ℕ) {p : Protocol} {settings : Parts} {spare : ℕ} (old : Around) (now : Line) (sessions more : List (Served p settings spare)) → ServedInTurn old.wire now (sessions ++ more) → (IsTrue old.shelf.tells → settings_of bytes ≡ Ok settings)
     → ServedSend old sessions
 served_send bytes old now sessions more turn read = record {
   sends = λ t.
@@ -174,36 +175,37 @@ served_send bytes old now sessions more turn read = record {
         clean = near-airs (accepted_in sessions) (airs sessions) (airs_of sessions);
         heard = λ receivers now u near. HearNear-from receivers now u (accepted_in sessions) all near;
       };
+  queued = all_queued sessions;
   whole = λ t st. accepted_while old.wire now sessions more turn t st;
 }
 
 -- where these are all
-all_send : (bytes : List ℕ) {settings : Parts} {spare : ℕ} (old : Around) (now : Line) (sessions : List (Served tap settings spare)) → ServedInTurn old.wire now sessions → (IsTrue old.shelf.tells → settings_of bytes ≡ Ok settings)
+all_send : (bytes : List ℕ) {p : Protocol} {settings : Parts} {spare : ℕ} (old : Around) (now : Line) (sessions : List (Served p settings spare)) → ServedInTurn old.wire now sessions → (IsTrue old.shelf.tells → settings_of bytes ≡ Ok settings)
     → ServedSend old sessions
-all_send bytes {settings = settings} {spare = spare} old now sessions turn read =
-    served_send bytes old now sessions [] (subst (λ (l : List (Served tap settings spare)). ServedInTurn old.wire now l) (sym (append-nil sessions)) turn) read
+all_send bytes {p = p} {settings = settings} {spare = spare} old now sessions turn read =
+    served_send bytes old now sessions [] (subst (λ (l : List (Served p settings spare)). ServedInTurn old.wire now l) (sym (append-nil sessions)) turn) read
 
-fault_promise : (bytes : List ℕ) (settings : Parts) (spare : ℕ) (first : Around) (files : Files) (new : Around) (address name : List ℕ) (most : ℕ)
-    (h : AtFreshFault tap settings spare (with_shelf first files) new name most ⊎ AtAppendFault tap settings spare (with_shelf first files) new address name most)
-    → (IsTrue first.shelf.tells → settings_of bytes ≡ Ok settings) → FaultPromise settings spare first (with_shelf first files) new address name most h
-fault_promise bytes settings spare first files new address name most (inl fresh) read = tt
-fault_promise bytes settings spare first files new address name most (inr fault) read = served_send bytes first new.wire fault.sessions (fault.unsent ∷ []) fault.wire read
+fault_promise : (p : Protocol) (bytes : List ℕ) (settings : Parts) (spare : ℕ) (first : Around) (files : Files) (new : Around) (address name : List ℕ) (most : ℕ)
+    (h : AtFreshFault p settings spare (with_shelf first files) new name most ⊎ AtAppendFault p settings spare (with_shelf first files) new address name most)
+    → (IsTrue first.shelf.tells → settings_of bytes ≡ Ok settings) → FaultPromise p settings spare first (with_shelf first files) new address name most h
+fault_promise p bytes settings spare first files new address name most (inl fresh) read = tt
+fault_promise p bytes settings spare first files new address name most (inr fault) read = served_send bytes first new.wire fault.sessions (fault.unsent ∷ []) fault.wire read
 
-file_promise : (address settings air : List ℕ) (count : ℕ) (old new : Around) (row : (Unreadable settings old.shelf new.shelf × LeavesWireAndOut old new) ⊎ ServedBy address settings air count old new FileFault)
-    → FilePromise address settings air count old new row
-file_promise address settings air count old new (inl unread) = tt
-file_promise address settings air count old new (inr by) = fault_promise (old.shelf.file settings) by.parts by.parts.cells old by.shelf new address air count by.served by.read.settings_are
+file_promise : (p : Protocol) (address settings air : List ℕ) (count : ℕ) (old new : Around) (row : (Unreadable settings old.shelf new.shelf × LeavesWireAndOut old new) ⊎ ServedBy p address settings air count old new FileFault)
+    → FilePromise p address settings air count old new row
+file_promise p address settings air count old new (inl unread) = tt
+file_promise p address settings air count old new (inr by) = fault_promise p (old.shelf.file settings) by.parts by.parts.cells old by.shelf new address air count by.served by.read.settings_are
 
-station_promise : (address settings air : List ℕ) (count : ℕ) (old new : Around) (outcome : Outcome) (row : StationRow address settings air count old new outcome)
-    → StationPromise address settings air count old new outcome row
-station_promise address settings air count old new (Refused fault) row = tt
-station_promise address settings air count old new (Misread fault) row = tt
-station_promise address settings air count old new (Ended Done) row = all_send (old.shelf.file settings) old new.wire row.served.sessions row.served.wire row.read.settings_are
-station_promise address settings air count old new (Ended WireFault) row = all_send (old.shelf.file settings) old new.wire row.served.sessions row.served.wire row.read.settings_are
-station_promise address settings air count old new (Ended OutFault) row =
+station_promise : (p : Protocol) (address settings air : List ℕ) (count : ℕ) (old new : Around) (outcome : Outcome) (row : StationRow p address settings air count old new outcome)
+    → StationPromise p address settings air count old new outcome row
+station_promise p address settings air count old new (Refused fault) row = tt
+station_promise p address settings air count old new (Misread fault) row = tt
+station_promise p address settings air count old new (Ended Done) row = all_send (old.shelf.file settings) old new.wire row.served.sessions row.served.wire row.read.settings_are
+station_promise p address settings air count old new (Ended WireFault) row = all_send (old.shelf.file settings) old new.wire row.served.sessions row.served.wire row.read.settings_are
+station_promise p address settings air count old new (Ended OutFault) row =
     all_send (old.shelf.file settings) old new.wire (row.served.sessions ++ row.served.unreported ∷ []) row.served.wire row.read.settings_are
-station_promise address settings air count old new (Ended FileFault) row = file_promise address settings air count old new row
-station_promise address settings air count old new (Ended status) row = tt
+station_promise p address settings air count old new (Ended FileFault) row = file_promise p address settings air count old new row
+station_promise p address settings air count old new (Ended status) row = tt
 
 -- ---- a run
 
@@ -222,7 +224,8 @@ promised (name ∷ w ∷ words) (Some (PlayLine line receivers)) old new outcome
 promised words (Some (WriteLine air line seed)) old new outcome acts h = tt
 promised words (Some (Show air)) old new outcome acts h = tt
 promised words (Some (Send address pages)) old new outcome acts h = tt
-promised words (Some (Station address settings air count)) old new outcome acts h = station_promise address settings air count _ _ outcome acts.row
+promised words (Some (Station address settings air count)) old new outcome acts h = station_promise tap address settings air count _ _ outcome acts.row
+promised words (Some (Snpp address settings air count)) old new outcome acts h = station_promise snpp address settings air count _ _ outcome acts.row
 promised [] (Some (Trial settings noise receivers)) old new outcome acts h = elim h [ ]
 promised (name ∷ []) (Some (Trial settings noise receivers)) old new outcome acts h = elim h.1 [ ]
 promised (name ∷ s ∷ []) (Some (Trial settings noise receivers)) old new outcome acts h = elim h.1 [ ]

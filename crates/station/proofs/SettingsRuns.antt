@@ -1,4 +1,4 @@
--- The commands `station` and `trial`, from their parts.
+-- The commands `station`, `snpp` and `trial`, from their parts.
 use Rattle.std.proofs.Common.{◌≡◌, inl, inr, ℕ, Bool, List, [], ◌∷◌, drop, refl, sym, ◌∙◌, ap, subst}
 use Rattle.std.specs.Borrow.{GName}
 use Rattle.subscribers.specs.Parts.{Parts}
@@ -14,21 +14,21 @@ use Rattle.endings.specs.declared.statuses.Status.{Status}
 use Rattle.endings.specs.declared.statuses.Status.TheVariants.{BadPages, BadSum, BadText, Done, FileFault, InputFault, LogonRefused, Memory, NotBlock, OutFault, Settings, SomeUnsent, TooLong, Usage, WireFault}
 use Rattle.listening.specs.PageLines.{play_lines}
 use Rattle.station.specs.ReadFile.{HasNoSettings, ReadSettings}
-use Rattle.serving.specs.Protocols.{tap}
+use Rattle.serving.specs.Protocols.{Protocol}
 use Rattle.serving.specs.Serving.{Around, HasServed}
 use Rattle.station.specs.StationRows.{AreFileBits, ServedBy, StationRow, TrialRow, TriedBy, TriesFile, with_shelf}
 use Rattle.serving.specs.Trying.{Tries}
 use Rattle.serving.proofs.TriedWell.{tried_well}
 
--- `station` without settings
-pub unset_station : (address settings air : List ℕ) (count : ℕ) (old : Around) (shelf : Files) (outcome : Outcome) → HasNoSettings settings old.shelf shelf outcome
-    → StationRow address settings air count old (with_shelf old shelf) outcome
-unset_station address settings air count old shelf (Refused fault) h = (h, record { wire = refl; out = refl })
-unset_station address settings air count old shelf (Misread fault) h = elim h [ ]
-unset_station address settings air count old shelf (Ended status) (inl h) =
-    subst (λ (s : Status). StationRow address settings air count old (with_shelf old shelf) (Ended s)) (sym h.0) (inl (h.1, record { wire = refl; out = refl }))
-unset_station address settings air count old shelf (Ended status) (inr h) =
-    subst (λ (s : Status). StationRow address settings air count old (with_shelf old shelf) (Ended s)) (sym h.0) (h.1, record { wire = refl; out = refl })
+-- `station` and `snpp` without settings
+pub unset_station : (p : Protocol) (address settings air : List ℕ) (count : ℕ) (old : Around) (shelf : Files) (outcome : Outcome) → HasNoSettings settings old.shelf shelf outcome
+    → StationRow p address settings air count old (with_shelf old shelf) outcome
+unset_station p address settings air count old shelf (Refused fault) h = (h, record { wire = refl; out = refl })
+unset_station p address settings air count old shelf (Misread fault) h = elim h [ ]
+unset_station p address settings air count old shelf (Ended status) (inl h) =
+    subst (λ (s : Status). StationRow p address settings air count old (with_shelf old shelf) (Ended s)) (sym h.0) (inl (h.1, record { wire = refl; out = refl }))
+unset_station p address settings air count old shelf (Ended status) (inr h) =
+    subst (λ (s : Status). StationRow p address settings air count old (with_shelf old shelf) (Ended s)) (sym h.0) (h.1, record { wire = refl; out = refl })
 
 -- `trial` without settings
 pub unset_trial : (settings noise : List ℕ) (receivers : List (List ℕ)) (input : Left ℕ) (old new : Files) (out : Written ℕ) (outcome : Outcome) → HasNoSettings settings old new outcome
@@ -41,33 +41,33 @@ unset_trial settings noise receivers input old new out (Ended status) (inr h) =
     subst (λ (s : Status). TrialRow settings noise receivers input input old new out out (Ended s)) (sym h.0) (h.1, refl, refl)
 
 -- connections were served by settings
-served_by : (address settings air : List ℕ) (count : ℕ) (old new : Around) (parts s : Parts) (shelf : Files) (n : ℕ) (status : Status) → s ≡ parts → n ≡ parts.cells
-    → ReadSettings settings old.shelf shelf parts → HasServed tap s n (with_shelf old shelf) new address air count status → ServedBy address settings air count old new status
-served_by address settings air count old new parts s shelf n status e k read h = record {
+served_by : (p : Protocol) (address settings air : List ℕ) (count : ℕ) (old new : Around) (parts s : Parts) (shelf : Files) (n : ℕ) (status : Status) → s ≡ parts → n ≡ parts.cells
+    → ReadSettings settings old.shelf shelf parts → HasServed p s n (with_shelf old shelf) new address air count status → ServedBy p address settings air count old new status
+served_by p address settings air count old new parts s shelf n status e k read h = record {
   parts = parts;
   shelf = shelf;
   read = read;
-  served = subst (λ (m : ℕ). HasServed tap parts m (with_shelf old shelf) new address air count status) k
-      (subst (λ (p : Parts). HasServed tap p n (with_shelf old shelf) new address air count status) e h);
+  served = subst (λ (m : ℕ). HasServed p parts m (with_shelf old shelf) new address air count status) k
+      (subst (λ (q : Parts). HasServed p q n (with_shelf old shelf) new address air count status) e h);
 }
 
-pub station_row : (address settings air : List ℕ) (count : ℕ) (old new : Around) (parts s : Parts) (shelf : Files) (n : ℕ) (status : Status) → s ≡ parts → n ≡ parts.cells
-    → ReadSettings settings old.shelf shelf parts → HasServed tap s n (with_shelf old shelf) new address air count status → StationRow address settings air count old new (Ended status)
-station_row address settings air count old new parts s shelf n Memory e k read h = elim h [ ]
-station_row address settings air count old new parts s shelf n FileFault e k read h = inr (served_by address settings air count old new parts s shelf n FileFault e k read h)
-station_row address settings air count old new parts s shelf n Usage e k read h = served_by address settings air count old new parts s shelf n Usage e k read h
-station_row address settings air count old new parts s shelf n Settings e k read h = served_by address settings air count old new parts s shelf n Settings e k read h
-station_row address settings air count old new parts s shelf n WireFault e k read h = served_by address settings air count old new parts s shelf n WireFault e k read h
-station_row address settings air count old new parts s shelf n OutFault e k read h = served_by address settings air count old new parts s shelf n OutFault e k read h
-station_row address settings air count old new parts s shelf n InputFault e k read h = served_by address settings air count old new parts s shelf n InputFault e k read h
-station_row address settings air count old new parts s shelf n NotBlock e k read h = served_by address settings air count old new parts s shelf n NotBlock e k read h
-station_row address settings air count old new parts s shelf n BadSum e k read h = served_by address settings air count old new parts s shelf n BadSum e k read h
-station_row address settings air count old new parts s shelf n BadText e k read h = served_by address settings air count old new parts s shelf n BadText e k read h
-station_row address settings air count old new parts s shelf n TooLong e k read h = served_by address settings air count old new parts s shelf n TooLong e k read h
-station_row address settings air count old new parts s shelf n LogonRefused e k read h = served_by address settings air count old new parts s shelf n LogonRefused e k read h
-station_row address settings air count old new parts s shelf n SomeUnsent e k read h = served_by address settings air count old new parts s shelf n SomeUnsent e k read h
-station_row address settings air count old new parts s shelf n BadPages e k read h = served_by address settings air count old new parts s shelf n BadPages e k read h
-station_row address settings air count old new parts s shelf n Done e k read h = served_by address settings air count old new parts s shelf n Done e k read h
+pub station_row : (p : Protocol) (address settings air : List ℕ) (count : ℕ) (old new : Around) (parts s : Parts) (shelf : Files) (n : ℕ) (status : Status) → s ≡ parts → n ≡ parts.cells
+    → ReadSettings settings old.shelf shelf parts → HasServed p s n (with_shelf old shelf) new address air count status → StationRow p address settings air count old new (Ended status)
+station_row p address settings air count old new parts s shelf n Memory e k read h = elim h [ ]
+station_row p address settings air count old new parts s shelf n FileFault e k read h = inr (served_by p address settings air count old new parts s shelf n FileFault e k read h)
+station_row p address settings air count old new parts s shelf n Usage e k read h = served_by p address settings air count old new parts s shelf n Usage e k read h
+station_row p address settings air count old new parts s shelf n Settings e k read h = served_by p address settings air count old new parts s shelf n Settings e k read h
+station_row p address settings air count old new parts s shelf n WireFault e k read h = served_by p address settings air count old new parts s shelf n WireFault e k read h
+station_row p address settings air count old new parts s shelf n OutFault e k read h = served_by p address settings air count old new parts s shelf n OutFault e k read h
+station_row p address settings air count old new parts s shelf n InputFault e k read h = served_by p address settings air count old new parts s shelf n InputFault e k read h
+station_row p address settings air count old new parts s shelf n NotBlock e k read h = served_by p address settings air count old new parts s shelf n NotBlock e k read h
+station_row p address settings air count old new parts s shelf n BadSum e k read h = served_by p address settings air count old new parts s shelf n BadSum e k read h
+station_row p address settings air count old new parts s shelf n BadText e k read h = served_by p address settings air count old new parts s shelf n BadText e k read h
+station_row p address settings air count old new parts s shelf n TooLong e k read h = served_by p address settings air count old new parts s shelf n TooLong e k read h
+station_row p address settings air count old new parts s shelf n LogonRefused e k read h = served_by p address settings air count old new parts s shelf n LogonRefused e k read h
+station_row p address settings air count old new parts s shelf n SomeUnsent e k read h = served_by p address settings air count old new parts s shelf n SomeUnsent e k read h
+station_row p address settings air count old new parts s shelf n BadPages e k read h = served_by p address settings air count old new parts s shelf n BadPages e k read h
+station_row p address settings air count old new parts s shelf n Done e k read h = served_by p address settings air count old new parts s shelf n Done e k read h
 
 -- the files that bits over a shelf hold
 abbrev files_of : Files → List Held → OtherFiles

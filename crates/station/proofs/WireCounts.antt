@@ -13,28 +13,28 @@ use Rattle.wires.specs.Line.{Line}
 use Rattle.wires.specs.Written.{Written}
 use Rattle.calling.specs.Calls.{CallsUp, SendsSo}
 use Rattle.station.specs.SendRows.{SendRow}
-use Rattle.station.specs.Commands.{Command, One, Play, PlayLine, Send, Show, Station, Trial, WriteLine}
+use Rattle.station.specs.Commands.{Command, One, Play, PlayLine, Send, Show, Snpp, Station, Trial, WriteLine}
 use Rattle.station.specs.Rows.{Acts, HasEndedSo, Objects, Outside, Runs}
-use Rattle.serving.specs.Protocols.{tap}
+use Rattle.serving.specs.Protocols.{Protocol, snpp, tap}
 use Rattle.serving.specs.Serving.{Around, HasServed}
 use Rattle.station.specs.StationRows.{StationRow, with_shelf}
 use Rattle.serving.proofs.InTurn.{turn-keeps}
 
-count-served : (settings : Parts) (spare : ℕ) (old new : Around) (address name : List ℕ) (most : ℕ) (status : Status) → HasServed tap settings spare old new address name most status → new.wire.count ≡ old.wire.count
-count-served settings spare old new address name most Done h = (turn-keeps old.wire new.wire h.sessions h.wire).count
-count-served settings spare old new address name most WireFault h = (turn-keeps old.wire new.wire h.sessions h.wire).count
-count-served settings spare old new address name most FileFault (inl h) = ap (λ wire. wire.count) h.wire
-count-served settings spare old new address name most FileFault (inr h) = (turn-keeps old.wire new.wire (h.sessions ++ h.unsent ∷ []) h.wire).count
-count-served settings spare old new address name most OutFault h = (turn-keeps old.wire new.wire (h.sessions ++ h.unreported ∷ []) h.wire).count
-count-served settings spare old new address name most other h = elim h [ ]
+count-served : (p : Protocol) (settings : Parts) (spare : ℕ) (old new : Around) (address name : List ℕ) (most : ℕ) (status : Status) → HasServed p settings spare old new address name most status → new.wire.count ≡ old.wire.count
+count-served p settings spare old new address name most Done h = (turn-keeps old.wire new.wire h.sessions h.wire).count
+count-served p settings spare old new address name most WireFault h = (turn-keeps old.wire new.wire h.sessions h.wire).count
+count-served p settings spare old new address name most FileFault (inl h) = ap (λ wire. wire.count) h.wire
+count-served p settings spare old new address name most FileFault (inr h) = (turn-keeps old.wire new.wire (h.sessions ++ h.unsent ∷ []) h.wire).count
+count-served p settings spare old new address name most OutFault h = (turn-keeps old.wire new.wire (h.sessions ++ h.unreported ∷ []) h.wire).count
+count-served p settings spare old new address name most other h = elim h [ ]
 
-count-station : (address settings air : List ℕ) (count : ℕ) (old new : Around) (outcome : Outcome) → StationRow address settings air count old new outcome → new.wire.count ≡ old.wire.count
-count-station address settings air count old new (Refused fault) h = ap (λ wire. wire.count) h.1.wire
-count-station address settings air count old new (Misread fault) h = elim h [ ]
-count-station address settings air count old new (Ended Memory) h = ap (λ wire. wire.count) h.1.wire
-count-station address settings air count old new (Ended FileFault) (inl h) = ap (λ wire. wire.count) h.1.wire
-count-station address settings air count old new (Ended FileFault) (inr h) = count-served h.parts h.parts.cells (with_shelf old h.shelf) new address air count FileFault h.served
-count-station address settings air count old new (Ended status) h = count-served h.parts h.parts.cells (with_shelf old h.shelf) new address air count status h.served
+count-station : (p : Protocol) (address settings air : List ℕ) (count : ℕ) (old new : Around) (outcome : Outcome) → StationRow p address settings air count old new outcome → new.wire.count ≡ old.wire.count
+count-station p address settings air count old new (Refused fault) h = ap (λ wire. wire.count) h.1.wire
+count-station p address settings air count old new (Misread fault) h = elim h [ ]
+count-station p address settings air count old new (Ended Memory) h = ap (λ wire. wire.count) h.1.wire
+count-station p address settings air count old new (Ended FileFault) (inl h) = ap (λ wire. wire.count) h.1.wire
+count-station p address settings air count old new (Ended FileFault) (inr h) = count-served p h.parts h.parts.cells (with_shelf old h.shelf) new address air count FileFault h.served
+count-station p address settings air count old new (Ended status) h = count-served p h.parts h.parts.cells (with_shelf old h.shelf) new address air count status h.served
 
 count-call : (told : FileContent) (address : List ℕ) (old new : Line) (outcomes : List Sent) (ending : Ending) → CallsUp told address old new outcomes ending → new.count ≡ old.count
 count-call told address old new outcomes ending (inl h) = h.came.line.count ∙ h.opens.count
@@ -68,7 +68,8 @@ count-acts (Some (Play air receivers)) old new outcome h = came _ outcome new.wi
 count-acts (Some (PlayLine line receivers)) old new outcome h = came _ outcome new.wire.count old.wire.count (λ status r. ap (λ wire. wire.count) r.wire) h
 count-acts (Some (WriteLine air line seed)) old new outcome h = came _ outcome new.wire.count old.wire.count (λ status r. ap (λ wire. wire.count) r.wire) h
 count-acts (Some (Show air)) old new outcome h = came _ outcome new.wire.count old.wire.count (λ status r. ap (λ wire. wire.count) r.wire) h
-count-acts (Some (Station address settings air count)) old new outcome h = count-station address settings air count _ _ outcome h.row
+count-acts (Some (Station address settings air count)) old new outcome h = count-station tap address settings air count _ _ outcome h.row
+count-acts (Some (Snpp address settings air count)) old new outcome h = count-station snpp address settings air count _ _ outcome h.row
 count-acts (Some (Trial settings noise receivers)) old new outcome h = ap (λ wire. wire.count) h.wire
 count-acts (Some (Send address pages)) old new outcome h = count-send address pages _ _ outcome h.row
 

@@ -19,6 +19,8 @@ pub data Command : Type 0 where
   Show : List ℕ → Command
   -- station ADDRESS SETTINGS AIR N: serves so many connections at this address, by these settings, and keeps the air in this file
   Station : List ℕ → List ℕ → List ℕ → ℕ → Command
+  -- snpp ADDRESS SETTINGS AIR N: the same by the SNPP entry line
+  Snpp : List ℕ → List ℕ → List ℕ → ℕ → Command
   -- trial SETTINGS NOISE RECEIVER ..: prints the answers to the session of the input, and the pages that receivers, each of these capcodes,
   -- hear through this noise
   Trial : List ℕ → List ℕ → List (List ℕ) → Command
@@ -92,7 +94,7 @@ abbrev pub AreLine : List (List ℕ) → List ℕ → List ℕ → ℕ → Type 
 AreLine (a ∷ l ∷ s ∷ []) air line seed = (a ≡ air) × (l ≡ line) × IsName air × IsName line × (air ≢ line) × IsSeedWord s seed
 AreLine words air line seed = ⊥
 
--- what follows `station`, and what follows `trial`
+-- what follows `station` and `snpp`, and what follows `trial`
 abbrev pub AreStation : List (List ℕ) → List ℕ → List ℕ → List ℕ → ℕ → Type 0
 AreStation (a ∷ s ∷ f ∷ n ∷ []) address settings air count =
     (a ≡ address) × (s ≡ settings) × (f ≡ air) × IsName address × IsName settings × IsName air × IsCountWord n count
@@ -120,6 +122,7 @@ IsCommand (name ∷ words) (PlayLine line receivers) = (name ≡ codes "play-lin
 IsCommand (name ∷ words) (WriteLine air line seed) = (name ≡ codes "line") × AreLine words air line seed
 IsCommand (name ∷ words) (Show air) = (name ≡ codes "show") × AreShow words air
 IsCommand (name ∷ words) (Station address settings air count) = (name ≡ codes "station") × AreStation words address settings air count
+IsCommand (name ∷ words) (Snpp address settings air count) = (name ≡ codes "snpp") × AreStation words address settings air count
 IsCommand (name ∷ words) (Trial settings noise receivers) = (name ≡ codes "trial") × AreTrial words settings noise receivers
 IsCommand (name ∷ words) (Send address pages) = (name ≡ codes "send") × AreSend words address pages
 

@@ -4,7 +4,7 @@ use Rattle.station.specs.declared.outcomes.Outcome.{Outcome}
 use Rattle.sampler.specs.Runs.{sampled_bits}
 use Rattle.endings.specs.declared.statuses.Status.{Status}
 use Rattle.endings.specs.declared.statuses.Status.TheVariants.{Memory}
-use Rattle.station.specs.Commands.{AreCommand, Command, One, Play, PlayLine, Send, Show, Station, Trial, WriteLine}
+use Rattle.station.specs.Commands.{AreCommand, Command, One, Play, PlayLine, Send, Show, Snpp, Station, Trial, WriteLine}
 use Rattle.station.specs.OneOutcome.{FitFile, FitOne, FitWriteLine, LeftAlike, bits_listened}
 use Rattle.station.specs.OneSend.{FitSend}
 use Rattle.station.specs.OneStation.{FitStation}
@@ -13,6 +13,7 @@ use Rattle.station.specs.Outcomes.{line_about}
 use Rattle.listening.specs.PageLines.{play_lines}
 use Rattle.station.specs.Rows.{Acts, Objects, Outside, Runs, around}
 use Rattle.listening.specs.Table.{table_of}
+use Rattle.serving.specs.Protocols.{snpp, tap}
 use Rattle.endings.specs.Wrote.{FitFor}
 
 -- the objects are fit for a command
@@ -23,7 +24,8 @@ FitRun (Some (Play air receivers)) old = FitFile air old.shelf × FitFor old.str
 FitRun (Some (PlayLine line receivers)) old = FitFile line old.shelf × FitFor old.streams.out (play_lines receivers (sampled_bits (bits_listened line old.shelf)))
 FitRun (Some (WriteLine air line seed)) old = FitWriteLine air line old.shelf
 FitRun (Some (Show air)) old = FitFile air old.shelf × FitFor old.streams.out (table_of (bits_listened air old.shelf))
-FitRun (Some (Station address settings air count)) old = FitStation settings air count (around old)
+FitRun (Some (Station address settings air count)) old = FitStation tap settings air count (around old)
+FitRun (Some (Snpp address settings air count)) old = FitStation snpp settings air count (around old)
 FitRun (Some (Trial settings noise receivers)) old = FitTrial settings noise receivers old.shelf old.streams
 FitRun (Some (Send address pages)) old = FitSend pages (around old)
 

@@ -1,8 +1,9 @@
 -- What a run promises of the pages that receivers hear.
-use Rattle.std.specs.Prelude.{◌≡◌, ℕ, ◌≤◌, ◌⊎◌, Bool, false, List, [], ◌∷◌, ◌++◌, map, take, IsTrue, All}
-use Rattle.std.specs.List.{concat}
+use Rattle.std.specs.Prelude.{◌≡◌, ℕ, ◌≤◌, ◌⊎◌, Bool, false, List, [], ◌∷◌, ◌++◌, length, map, take, IsTrue, All}
+use Rattle.std.specs.List.{AllByRecursion, concat}
 use Rattle.std.proofs.Common.{inl, inr}
 use Rattle.bits.specs.Bits.{bytes_bits}
+use Rattle.entry_line.specs.Chars.{char_of}
 use Rattle.page_text.specs.Page.{Page, IsAcceptable}
 use Rattle.air.specs.Near.{IsAirs, Near}
 use Rattle.receiver.specs.Listeners.{is_one_of}
@@ -10,8 +11,8 @@ use Rattle.receiver.specs.Receivers.{most_receivers}
 use Rattle.receiver.specs.Shown.{has_of, pages_in, pages_of_frame, shown_by}
 use Rattle.sampler.specs.Line.{IsLine}
 use Rattle.sampler.specs.Runs.{NoneLonger, sampled_bits}
+use Rattle.snpp_entry.specs.Sends.{sends_taken, session_lines}
 use Rattle.subscribers.specs.Parts.{Parts}
-use Rattle.tap_terminal.specs.Session.{Session}
 use Rattle.wires.specs.Files.{Files}
 use Rattle.wires.specs.Left.{Left}
 use Rattle.wires.specs.Line.{Line}
@@ -22,11 +23,10 @@ use Rattle.station.specs.declared.outcomes.Outcome.TheVariants.{Ended}
 use Rattle.endings.specs.declared.statuses.Status.TheVariants.{Done, FileFault, OutFault, WireFault}
 use Rattle.near.specs.NearAir.{AreUsable, joined}
 use Rattle.listening.specs.PageLines.{pairs_heard}
-use Rattle.serving.specs.Protocols.{tap}
+use Rattle.serving.specs.Protocols.{IsSessionIn, Protocol, SessionIn, queued_in, snpp, tap}
 use Rattle.serving.specs.Served.{AllFrom, NextFit, Served, airs}
 use Rattle.station.specs.ReadFile.{Unreadable}
 use Rattle.serving.specs.Serving.{Around, AtAppendFault, AtFreshFault}
-use Rattle.serving.specs.TapSessions.{SessionOf}
 use Rattle.station.specs.StationRows.{LeavesWireAndOut, ServedBy, StationRow, TrialRow, with_shelf}
 
 -- What each receiver, by its number, prints of each frame are exactly the pages of its capcodes in these lists, in order, each with its
@@ -61,8 +61,8 @@ TrialPromise settings noise receivers input0 input old new out0 out (Ended Done)
 TrialPromise settings noise receivers input0 input old new out0 out outcome row = Unit {0}
 
 -- the pages that sessions accepted, session by session
-abbrev pub accepted_in : {settings : Parts} {spare : ℕ} → List (Served tap settings spare) → List (List Page)
-accepted_in sessions = map (λ s. s.ran.session.pages) sessions
+abbrev pub accepted_in : {p : Protocol} {settings : Parts} {spare : ℕ} → List (Served p settings spare) → List (List Page)
+accepted_in {p} sessions = map (λ s. queued_in p s.ran.session) sessions
 
 -- The pages that sessions accepted are acceptable, and these are their transmissions, one after another. They are near as they were
 -- sent, and of bits that are near them any receivers hear exactly these pages.
@@ -73,36 +73,42 @@ pub record SendsAccepted (lists : List (List Page)) (bits : List Bool) : Type 0 
   pub heard : (receivers : List (List ℕ)) (now : List Bool) → AreUsable (is_one_of (concat receivers)) → Near lists now → HearLists receivers lists now
 
 -- these are the pages of the session of all that is to be heard on the connection of this number
-abbrev pub AreAccepted : Parts → ℕ → Line → ℕ → List Page → Type 0
-AreAccepted settings spare wire k pages = (session : Session) → SessionOf settings spare (wire.connection k).rest session → session.pages ≡ pages
+abbrev pub AreAccepted : Protocol → Parts → ℕ → Line → ℕ → List Page → Type 0
+AreAccepted p settings spare wire k pages = (session : SessionIn p) → IsSessionIn p settings spare (wire.connection k).rest session → queued_in p session ≡ pages
 
 -- As long as the next connections have room for the replies, the first of these lists are the pages of their sessions, whatever happens
 -- on connections behind them.
-abbrev pub AcceptedWhileFit : Parts → ℕ → Line → List (List Page) → Type 0
-AcceptedWhileFit settings spare wire lists = (n : ℕ) → NextFit tap settings spare wire n → AllFrom (AreAccepted settings spare wire) wire.opened (take n lists)
+abbrev pub AcceptedWhileFit : Protocol → Parts → ℕ → Line → List (List Page) → Type 0
+AcceptedWhileFit p settings spare wire lists = (n : ℕ) → NextFit p settings spare wire n → AllFrom (AreAccepted p settings spare wire) wire.opened (take n lists)
+
+-- A session of SNPP has as many pages as lines of it are a SEND that was answered 250 OK: each such line queues one page, and no other line one.
+abbrev pub QueuedAtSends : (p : Protocol) → List ℕ → SessionIn p → Type 0
+QueuedAtSends tap heard session = Unit {0}
+QueuedAtSends snpp heard session = length session.pages ≡ sends_taken (session_lines (map char_of heard)) session.answers
 
 -- Sessions that were served send what they accepted. Over a steady wire, while its connections are fit, that is what the sessions of all
 -- that was to be heard accept.
-pub record ServedSend {settings : Parts} {spare : ℕ} (old : Around) (sessions : List (Served tap settings spare)) : Type 0 where
+pub record ServedSend {p : Protocol} {settings : Parts} {spare : ℕ} (old : Around) (sessions : List (Served p settings spare)) : Type 0 where
   pub sends : IsTrue old.shelf.tells → SendsAccepted (accepted_in sessions) (airs sessions)
-  pub whole : IsTrue old.wire.tells → IsTrue old.wire.steady → AcceptedWhileFit settings spare old.wire (accepted_in sessions)
+  pub queued : AllByRecursion (λ (s : Served p settings spare). QueuedAtSends p s.ran.fed s.ran.session) sessions
+  pub whole : IsTrue old.wire.tells → IsTrue old.wire.steady → AcceptedWhileFit p settings spare old.wire (accepted_in sessions)
 
 -- where an append failed, this holds of the sessions before the last one
-abbrev pub FaultPromise : (settings : Parts) (spare : ℕ) (first old new : Around) (address name : List ℕ) (most : ℕ)
-    → AtFreshFault tap settings spare old new name most ⊎ AtAppendFault tap settings spare old new address name most → Type 0
-FaultPromise settings spare first old new address name most (inl fresh) = Unit {0}
-FaultPromise settings spare first old new address name most (inr fault) = ServedSend first fault.sessions
+abbrev pub FaultPromise : (p : Protocol) (settings : Parts) (spare : ℕ) (first old new : Around) (address name : List ℕ) (most : ℕ)
+    → AtFreshFault p settings spare old new name most ⊎ AtAppendFault p settings spare old new address name most → Type 0
+FaultPromise p settings spare first old new address name most (inl fresh) = Unit {0}
+FaultPromise p settings spare first old new address name most (inr fault) = ServedSend first fault.sessions
 
 -- where a file failed: the settings file wasn't read, or the air failed
-abbrev pub FilePromise : (address settings air : List ℕ) (count : ℕ) (old new : Around)
-    → (Unreadable settings old.shelf new.shelf × LeavesWireAndOut old new) ⊎ ServedBy address settings air count old new FileFault → Type 0
-FilePromise address settings air count old new (inl unread) = Unit {0}
-FilePromise address settings air count old new (inr by) = FaultPromise by.parts by.parts.cells old (with_shelf old by.shelf) new address air count by.served
+abbrev pub FilePromise : (p : Protocol) (address settings air : List ℕ) (count : ℕ) (old new : Around)
+    → (Unreadable settings old.shelf new.shelf × LeavesWireAndOut old new) ⊎ ServedBy p address settings air count old new FileFault → Type 0
+FilePromise p address settings air count old new (inl unread) = Unit {0}
+FilePromise p address settings air count old new (inr by) = FaultPromise p by.parts by.parts.cells old (with_shelf old by.shelf) new address air count by.served
 
 -- what serving connections promises of the sessions whose transmissions were appended
-abbrev pub StationPromise : (address settings air : List ℕ) (count : ℕ) (old new : Around) (outcome : Outcome) → StationRow address settings air count old new outcome → Type 0
-StationPromise address settings air count old new (Ended Done) row = ServedSend old row.served.sessions
-StationPromise address settings air count old new (Ended WireFault) row = ServedSend old row.served.sessions
-StationPromise address settings air count old new (Ended OutFault) row = ServedSend old (row.served.sessions ++ row.served.unreported ∷ [])
-StationPromise address settings air count old new (Ended FileFault) row = FilePromise address settings air count old new row
-StationPromise address settings air count old new outcome row = Unit {0}
+abbrev pub StationPromise : (p : Protocol) (address settings air : List ℕ) (count : ℕ) (old new : Around) (outcome : Outcome) → StationRow p address settings air count old new outcome → Type 0
+StationPromise p address settings air count old new (Ended Done) row = ServedSend old row.served.sessions
+StationPromise p address settings air count old new (Ended WireFault) row = ServedSend old row.served.sessions
+StationPromise p address settings air count old new (Ended OutFault) row = ServedSend old (row.served.sessions ++ row.served.unreported ∷ [])
+StationPromise p address settings air count old new (Ended FileFault) row = FilePromise p address settings air count old new row
+StationPromise p address settings air count old new outcome row = Unit {0}

@@ -11,7 +11,7 @@ use Rattle.wires.specs.Written.{Written}
 use Rattle.endings.specs.declared.statuses.Status.{Status}
 use Rattle.endings.specs.declared.statuses.Status.TheVariants.{BadSum, BadText, Done, InputFault, Memory, NotBlock, OutFault, Usage}
 use Rattle.station.specs.AlphaPage.{alpha_page}
-use Rattle.station.specs.Commands.{AreCommand, Command, One, Play, PlayLine, Send, Show, Station, Trial, WriteLine}
+use Rattle.station.specs.Commands.{AreCommand, Command, One, Play, PlayLine, Send, Show, Snpp, Station, Trial, WriteLine}
 use Rattle.listening.specs.HeardFile.{HearsFile, Plays}
 use Rattle.listening.specs.HeardLine.{PlaysSamples}
 use Rattle.line_writer.specs.LineFile.{WritesLine}
@@ -22,6 +22,7 @@ use Rattle.station.specs.Outcomes.{ErrWell, TellsOutcome}
 use Rattle.station.specs.declared.outcomes.Outcome.{Outcome}
 use Rattle.station.specs.declared.outcomes.Outcome.TheVariants.{Ended, Misread, Refused}
 use Rattle.station.specs.SendRows.{SendRow}
+use Rattle.serving.specs.Protocols.{Protocol, snpp, tap}
 use Rattle.serving.specs.Serving.{Around}
 use Rattle.station.specs.StationRows.{StationRow, TrialRow}
 use Rattle.listening.specs.Table.{table_of}
@@ -135,10 +136,10 @@ pub record RunsShow (air : List ℕ) (old new : Objects) (status : Status) : Typ
   pub wire : new.wire ≡ old.wire
   pub input : new.streams.input ≡ old.streams.input
 
--- `station`: the settings file was read, and connections at the address were served by its settings; wire, shelf and output are told by `Around`. Where
+-- `station` and `snpp`, by their protocol: the settings file was read, and connections at the address were served by its settings; wire, shelf and output are told by `Around`. Where
 -- reading the file failed, where it is refused, and where there was no memory, nothing else was touched. The input is as before.
-pub record RunsStation (address settings air : List ℕ) (count : ℕ) (old new : Objects) (outcome : Outcome) : Type 0 where
-  pub row : StationRow address settings air count (around old) (around new) outcome
+pub record RunsStation (p : Protocol) (address settings air : List ℕ) (count : ℕ) (old new : Objects) (outcome : Outcome) : Type 0 where
+  pub row : StationRow p address settings air count (around old) (around new) outcome
   pub input : new.streams.input ≡ old.streams.input
 
 -- `trial`: the settings file was read, and the session of the input tried by its settings. Where reading the file failed, where it is
@@ -167,12 +168,13 @@ Acts (Some (Play air receivers)) old new outcome = HasEndedSo (RunsPlay receiver
 Acts (Some (PlayLine line receivers)) old new outcome = HasEndedSo (RunsPlayLine receivers line old new) outcome
 Acts (Some (WriteLine air line seed)) old new outcome = HasEndedSo (RunsWriteLine air line seed old new) outcome
 Acts (Some (Show air)) old new outcome = HasEndedSo (RunsShow air old new) outcome
-Acts (Some (Station address settings air count)) old new outcome = RunsStation address settings air count old new outcome
+Acts (Some (Station address settings air count)) old new outcome = RunsStation tap address settings air count old new outcome
+Acts (Some (Snpp address settings air count)) old new outcome = RunsStation snpp address settings air count old new outcome
 Acts (Some (Trial settings noise receivers)) old new outcome = RunsTrial settings noise receivers old new outcome
 Acts (Some (Send address pages)) old new outcome = RunsSend address pages old new outcome
 
 -- What a command promises of the pages that receivers hear: `play` of the bits of its file, `play-line` of the samples in its file, `trial` of the session that it tried, and
--- `station` of the transmissions that it sent.
+-- `station` and `snpp` of the transmissions that they sent.
 abbrev pub Promises : (command : Option Command) (old new : Objects) (outcome : Outcome) → Acts command old new outcome → Type 0
 Promises None old new outcome acts = Unit {0}
 Promises (Some (One capcode)) old new outcome acts = Unit {0}
@@ -181,7 +183,8 @@ Promises (Some (PlayLine line receivers)) old new outcome acts = HearNearLine re
 Promises (Some (WriteLine air line seed)) old new outcome acts = Unit {0}
 Promises (Some (Show air)) old new outcome acts = Unit {0}
 Promises (Some (Send address pages)) old new outcome acts = Unit {0}
-Promises (Some (Station address settings air count)) old new outcome acts = StationPromise address settings air count (around old) (around new) outcome acts.row
+Promises (Some (Station address settings air count)) old new outcome acts = StationPromise tap address settings air count (around old) (around new) outcome acts.row
+Promises (Some (Snpp address settings air count)) old new outcome acts = StationPromise snpp address settings air count (around old) (around new) outcome acts.row
 Promises (Some (Trial settings noise receivers)) old new outcome acts =
     TrialPromise settings noise receivers old.streams.input new.streams.input old.shelf new.shelf old.streams.out new.streams.out outcome acts.row
 

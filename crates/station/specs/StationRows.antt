@@ -1,5 +1,5 @@
--- The commands `station` and `trial`, from their settings on.
-use Rattle.std.specs.Prelude.{◌≡◌, ◌⊎◌, ℕ, ◌&&◌, Bool, List, IsTrue}
+-- The commands `station`, `snpp` and `trial`, from their settings on.
+use Rattle.std.specs.Prelude.{◌≡◌, ◌⊎◌, ℕ, ◌&&◌, Bool, List, IsTrue, Result, Ok, Err}
 use Rattle.bits.specs.Bits.{bytes_bits}
 use Rattle.subscribers.specs.Parts.{Parts}
 use Rattle.wires.specs.Files.{Files}
@@ -10,35 +10,42 @@ use Rattle.station.specs.declared.outcomes.Outcome.TheVariants.{Ended, Misread, 
 use Rattle.endings.specs.declared.statuses.Status.{Status}
 use Rattle.endings.specs.declared.statuses.Status.TheVariants.{FileFault, Memory}
 use Rattle.listening.specs.PageLines.{play_lines}
-use Rattle.station.specs.ReadFile.{KeepsFiles, ReadSettings, RefusedSettings, Unharmed, Unreadable}
-use Rattle.serving.specs.Protocols.{tap}
+use Rattle.station.specs.ReadFile.{HasNoSettings, KeepsFiles, ReadSettings, RefusedSettings, Unharmed, Unreadable}
+use Rattle.serving.specs.Protocols.{Protocol}
 use Rattle.serving.specs.Serving.{Around, HasServed}
+use Rattle.serving.specs.StationState.{StationState}
 use Rattle.serving.specs.Trying.{TrialOutWell, Tries}
+
+-- a station of the settings of a file, or what a command comes to that has none
+abbrev pub OpensStation : List ℕ → Files → Files → Result StationState Outcome → Type 0
+OpensStation name old new (Ok station) = ReadSettings name old new station.settings
+OpensStation name old new (Err outcome) = HasNoSettings name old new outcome
 
 -- with this shelf in place of its own
 abbrev pub with_shelf : Around → Files → Around
 with_shelf around shelf = record { wire = around.wire; shelf = shelf; out = around.out }
 
--- The settings were read, and connections at the address were served by them, with as many spare cells as they say.
-pub record ServedBy (address settings air : List ℕ) (count : ℕ) (old new : Around) (status : Status) : Type 0 where
+-- The settings were read, and connections at the address were served by them, by an entry line of this protocol, with as many spare cells as
+-- they say.
+pub record ServedBy (p : Protocol) (address settings air : List ℕ) (count : ℕ) (old new : Around) (status : Status) : Type 0 where
   pub parts : Parts
   pub shelf : Files
   pub read : ReadSettings settings old.shelf shelf parts
-  pub served : HasServed tap parts parts.cells (with_shelf old shelf) new address air count status
+  pub served : HasServed p parts parts.cells (with_shelf old shelf) new address air count status
 
 -- Wire and output are as they were.
 pub record LeavesWireAndOut (old new : Around) : Type 0 where
   pub wire : new.wire ≡ old.wire
   pub out : new.out ≡ old.out
 
--- `station`, by what it came to
-abbrev pub StationRow : List ℕ → List ℕ → List ℕ → ℕ → Around → Around → Outcome → Type 0
-StationRow address settings air count old new (Refused fault) = RefusedSettings settings old.shelf new.shelf fault × LeavesWireAndOut old new
-StationRow address settings air count old new (Misread fault) = ⊥
-StationRow address settings air count old new (Ended Memory) = Unharmed settings old.shelf new.shelf × LeavesWireAndOut old new
-StationRow address settings air count old new (Ended FileFault) =
-    (Unreadable settings old.shelf new.shelf × LeavesWireAndOut old new) ⊎ ServedBy address settings air count old new FileFault
-StationRow address settings air count old new (Ended status) = ServedBy address settings air count old new status
+-- `station` and `snpp`, by their protocol and what they came to
+abbrev pub StationRow : Protocol → List ℕ → List ℕ → List ℕ → ℕ → Around → Around → Outcome → Type 0
+StationRow p address settings air count old new (Refused fault) = RefusedSettings settings old.shelf new.shelf fault × LeavesWireAndOut old new
+StationRow p address settings air count old new (Misread fault) = ⊥
+StationRow p address settings air count old new (Ended Memory) = Unharmed settings old.shelf new.shelf × LeavesWireAndOut old new
+StationRow p address settings air count old new (Ended FileFault) =
+    (Unreadable settings old.shelf new.shelf × LeavesWireAndOut old new) ⊎ ServedBy p address settings air count old new FileFault
+StationRow p address settings air count old new (Ended status) = ServedBy p address settings air count old new status
 
 -- these are the bits of a file's bytes
 pub record AreFileBits (name : List ℕ) (shelf : Files) (bits : Left Bool) : Type 0 where

@@ -23,13 +23,15 @@ pub(crate) enum CommandLine<'a> {
     Show(&'a str),
     /// `station ADDRESS SETTINGS AIR N`
     Station(StationLine<'a>),
+    /// `snpp ADDRESS SETTINGS AIR N`
+    Snpp(StationLine<'a>),
     /// `trial SETTINGS NOISE RECEIVER ..`
     Trial(&'a str, &'a str, Receivers),
     /// `send ADDRESS PAGES`
     Send(&'a str, &'a str),
 }
 
-/// What follows `station`.
+/// What follows `station` and `snpp`.
 #[derive(Clone, Copy)]
 pub(crate) struct StationLine<'a> {
     pub(crate) address: &'a str,
@@ -87,7 +89,7 @@ fn line_words(words: &[String]) -> Option<(&str, &str, u64)>
     Some((air, line, seed))
 }
 
-/// Reads what follows `station`.
+/// Reads what follows `station` or `snpp`.
 fn station_line(words: &[String]) -> Option<StationLine<'_>>
     ensures { MatchOption result ((address settings air : List ℕ) (count : ℕ) → AreStation (texts words.now) address settings air count → ⊥)
         (λ line. AreStation (texts words.now) line.address.now line.settings.now line.air.now line.count) }
@@ -206,6 +208,10 @@ pub(crate) fn parse(words: &[String]) -> Option<CommandLine<'_>>
         },
         "station" => match station_line(rest) {
             Some(line) => Some(CommandLine::Station(line)),
+            None => None,
+        },
+        "snpp" => match station_line(rest) {
+            Some(line) => Some(CommandLine::Snpp(line)),
             None => None,
         },
         "trial" => match trial_line(rest) {

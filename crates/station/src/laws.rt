@@ -7,6 +7,7 @@ ghost use Rattle.station.specs.AirRoom.{AirsFit, CallFits, ShelfFits, WireFits};
 ghost use Rattle.station.specs.Delivered.{Delivered};
 ghost use Rattle.station.specs.FitWorlds.{FitErrWithRoom, FitInMemory, FitWithRoom};
 ghost use Rattle.serving.specs.InTurn.{AllInTurn};
+ghost use Rattle.serving.specs.Protocols.{snpp, tap};
 ghost use Rattle.station.specs.LoneBlock.{HasText, IsMarkedBlock};
 ghost use Rattle.station.specs.OneOutcome.{OneOne, OnePlay, OnePlayLine, OneShow, OneWriteLine};
 ghost use Rattle.station.specs.OneRun.{OneRun};
@@ -28,7 +29,7 @@ pub fn delivered()
     ensures { Delivered }
 {}
 
-/// Each page that a session accepts under the settings of a file has a usable capcode, and a text that fits its function. This is
+/// Each page that a session of either entry line accepts under the settings of a file has a usable capcode, and a text that fits its function. This is
 /// what `near_air` asks of the pages.
 pub fn accepted_pages()
     ensures { AreAcceptable }
@@ -48,7 +49,8 @@ pub fn one_outcome()
     ensures write_line { OneWriteLine }
     ensures show { OneShow }
     ensures one { OneOne }
-    ensures station { OneStation }
+    ensures station { OneStation tap }
+    ensures snpp { OneStation snpp }
     ensures trial { OneTrial }
     ensures send { OneSend }
     ensures run { OneRun }

@@ -10,6 +10,7 @@
 //! - `sessions`: runs of `station`, what `play` then prints, and `accepted` and `refused`, the tables of these sessions.
 //! - `cuts`: one session in every cut.
 //! - `long_sessions`: sessions of very many blocks or characters.
+//! - `snpp_lines`: runs of `snpp`.
 //! - `stations`: runs of `station` that are to serve two connections.
 //! - `failing_calls`: runs in which each call of an object fails in turn, and `stands`, the tables of what they leave.
 //! - `trials`: runs of `trial`.
@@ -51,6 +52,8 @@ mod refused;
 mod runs;
 #[cfg(test)]
 mod sessions;
+#[cfg(test)]
+mod snpp_lines;
 #[cfg(test)]
 mod stands;
 #[cfg(test)]

@@ -1,4 +1,4 @@
-use Rattle.station.proofs.AirRooms.{airs_fit, shelf_fits, wire_fits}
+use Rattle.station.proofs.FitRooms.{airs_fit, shelf_fits, wire_fits}
 use Rattle.station.proofs.CallRooms.{call_fits}
 use Rattle.station.proofs.laws.air_room.Goals as goal
 

@@ -1,3 +1,4 @@
+use Rattle.serving.specs.Protocols.{snpp, tap}
 use Rattle.station.proofs.OneOfOne.{one_one}
 use Rattle.station.proofs.OneOutcomes.{one_play, one_play_line, one_show}
 use Rattle.station.proofs.OneLines.{one_write_line}
@@ -23,7 +24,10 @@ pub returns-clause-one : goal.returns-clause-one
 returns-clause-one c = one_one
 
 pub returns-clause-station : goal.returns-clause-station
-returns-clause-station c = one_station
+returns-clause-station c = one_station tap
+
+pub returns-clause-snpp : goal.returns-clause-snpp
+returns-clause-snpp c = one_station snpp
 
 pub returns-clause-trial : goal.returns-clause-trial
 returns-clause-trial c = one_trial
