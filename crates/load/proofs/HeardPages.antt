@@ -4,15 +4,13 @@ use Rattle.std.proofs.lemmas.Bool.{and_parts, both_ways, ne_eqb}
 use Rattle.std.proofs.lemmas.List.{map-append}
 use Rattle.std.proofs.lemmas.List.Elements.{filter-append}
 use Rattle.codeword.specs.Capcodes.{capcode_at}
-use Rattle.codeword.specs.Kinds.{kind_of}
 use Rattle.codeword.specs.declared.functions.Function.{Function}
 use Rattle.codeword.specs.declared.kinds.WordKind.{WordKind}
 use Rattle.codeword.specs.declared.kinds.WordKind.TheVariants.{Address, Message}
 use Rattle.page_text.specs.declared.limits.TheConstants.{MOST_GROUPS}
 use Rattle.page_text.specs.Page.{Page}
-use Rattle.receiver.specs.Heard.{HeardPage, groups_to_address, heard, page_if, page_with, pages_from, stretch_pages, with_text}
+use Rattle.receiver.specs.Heard.{HeardPage, groups_to_address, heard, kinds_in, page_if, page_with, pages_from, stretch_pages, with_text}
 use Rattle.receiver.specs.Shown.{pages_in}
-use Rattle.receiver.specs.Slots.{stretch_slots}
 use Rattle.receiver.specs.Stretches.{stretches}
 
 module _ (f g : ℕ → Bool) (same : (c : ℕ) → f c ≡ g c) where
@@ -23,14 +21,14 @@ module _ (f g : ℕ → Bool) (same : (c : ℕ) → f c ≡ g c) where
   same-page_with place (Some (Address high function)) (Some groups) =
       ap (λ (b : Bool). page_if (b && nat_le (length groups) MOST_GROUPS) (capcode_at place high) function groups) (same (capcode_at place high))
 
-  same-pages_from : (place : ℕ) (words : List ℕ) → pages_from f place words ≡ pages_from g place words
+  same-pages_from : (place : ℕ) (kinds : List (Option WordKind)) → pages_from f place kinds ≡ pages_from g place kinds
   unfolding pages_from
   same-pages_from place [] = refl
-  same-pages_from place (w ∷ ws) = ap₂ (λ (x y : List HeardPage). x ++ y) (same-page_with place (kind_of w) (groups_to_address ws)) (same-pages_from (suc place) ws)
+  same-pages_from place (kind ∷ kinds) = ap₂ (λ (x y : List HeardPage). x ++ y) (same-page_with place kind (groups_to_address kinds)) (same-pages_from (suc place) kinds)
 
   same-stretches : (xs : List (List ℕ)) → flat_map (stretch_pages f) xs ≡ flat_map (stretch_pages g) xs
   same-stretches [] = refl
-  same-stretches (x ∷ xs) = ap₂ (λ (y z : List HeardPage). y ++ z) (same-pages_from 0 (stretch_slots x)) (same-stretches xs)
+  same-stretches (x ∷ xs) = ap₂ (λ (y z : List HeardPage). y ++ z) (same-pages_from 0 (kinds_in x)) (same-stretches xs)
 
   -- the same capcodes hear the same pages
   pub heard-same : (bits : List Bool) → heard f bits ≡ heard g bits
@@ -60,15 +58,15 @@ module _ (f : ℕ → Bool) (c : ℕ) (not_listened : f c ≡ false) where
       none-page_if (f (capcode_at place high) && nat_le (length groups) MOST_GROUPS) (capcode_at place high) function groups
       (λ e. (and_parts (f (capcode_at place high)) (nat_le (length groups) MOST_GROUPS) e).0)
 
-  none-pages_from : (place : ℕ) (words : List ℕ) → of_c (pages_from f place words) ≡ []
+  none-pages_from : (place : ℕ) (kinds : List (Option WordKind)) → of_c (pages_from f place kinds) ≡ []
   unfolding pages_from
   none-pages_from place [] = refl
-  none-pages_from place (w ∷ ws) =
-      of_c-append (page_with f place (kind_of w) (groups_to_address ws)) (pages_from f (suc place) ws) (none-page_with place (kind_of w) (groups_to_address ws)) (none-pages_from (suc place) ws)
+  none-pages_from place (kind ∷ kinds) =
+      of_c-append (page_with f place kind (groups_to_address kinds)) (pages_from f (suc place) kinds) (none-page_with place kind (groups_to_address kinds)) (none-pages_from (suc place) kinds)
 
   none-stretches : (xs : List (List ℕ)) → of_c (flat_map (stretch_pages f) xs) ≡ []
   none-stretches [] = refl
-  none-stretches (x ∷ xs) = of_c-append (stretch_pages f x) (flat_map (stretch_pages f) xs) (none-pages_from 0 (stretch_slots x)) (none-stretches xs)
+  none-stretches (x ∷ xs) = of_c-append (stretch_pages f x) (flat_map (stretch_pages f) xs) (none-pages_from 0 (kinds_in x)) (none-stretches xs)
 
   -- no page is heard of a capcode that isn't listened to
   pub heard-none : (bits : List Bool) → pages_in (λ capcode. capcode == c) (map with_text (heard f bits)) ≡ []

@@ -14,11 +14,11 @@ use Rattle.bits.proofs.Lengths.{length-bits_of, length-words_bits}
 use Rattle.bits.proofs.Metric.{dist-self}
 use Rattle.codeword.specs.Words.{filler}
 use Rattle.listening.proofs.NoisyHeard.{length-noisy_bits}
-use Rattle.near.proofs.NearWords.{IsNearWords, near_air-whole}
 use Rattle.page_text.specs.Page.{Page}
 use Rattle.receiver.specs.Windows.{preamble_bits}
 use Rattle.wires.specs.Stacked.{noisy_bits}
 use Rattle.load.specs.Noises.{first_noise, is_flipped, one_place, other_place, word_of_test}
+use Rattle.load.proofs.NearBits.{IsNearWords, near_air-whole}
 use Rattle.load.proofs.WordNoises.{noisy-then}
 
 -- how many bits are ones
