@@ -9,7 +9,8 @@ pub mod HeardPages
 pub mod Hearing
 pub mod Listed
 pub mod Members
+pub mod NearBits
 pub mod NearNoise
-pub mod NearParts
+pub mod OneReport
 pub mod Runs
 pub mod WordNoises

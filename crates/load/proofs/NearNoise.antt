@@ -18,7 +18,7 @@ use Rattle.page_text.specs.Page.{Page}
 use Rattle.receiver.specs.Windows.{preamble_bits}
 use Rattle.wires.specs.Stacked.{noisy_bits}
 use Rattle.load.specs.Noises.{first_noise, is_flipped, one_place, other_place, word_of_test}
-use Rattle.load.proofs.NearParts.{IsNearWords, near_air-whole}
+use Rattle.load.proofs.NearBits.{IsNearWords, near_air-whole}
 use Rattle.load.proofs.WordNoises.{noisy-then}
 
 -- how many bits are ones

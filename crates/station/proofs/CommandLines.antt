@@ -4,17 +4,17 @@ use Rattle.std.specs.Str.{bytes_eq}
 use Rattle.std.proofs.Common.{◌≡◌, ◌≢◌, ℕ, ◌<◌, ◌≤◌, Bool, true, false, List, [], ◌∷◌, Option, Some, None, length, get_or, sym, ◌∙◌, ap, subst, arith}
 use Rattle.std.specs.Prelude.{String, string_bytes}
 use Rattle.std.specs.declared.alloc.Global.{Global}
-use Rattle.station.specs.Commands.{AreCommand, AreLine, AreStation, Command, FilesDiffer, IsCountWord, IsSeedWord, One, Play, PlayLine, Send, Show, Snpp, Station, Trial, WriteLine, texts}
+use Rattle.station.specs.Commands.{AreCommand, AreLine, AreStation, Command, FilesDiffer, IsCountWord, IsSeedWord, Load, One, Play, PlayLine, Send, Show, Snpp, Station, Trial, WriteLine, texts}
 
 -- the last of four words
 pub last_of_four : (words : List (String Global)) (item : String Global) (address settings air : List ℕ) (count : ℕ) → 4 ≤ length words → length words < 5
-    → item ≡ get_or words 3 item → AreStation (texts words) address settings air count → IsCountWord (string_bytes item) count
+    → item ≡ get_or words 3 item → AreStation (texts words) address settings air count → IsCountWord 1000 (string_bytes item) count
 last_of_four [] item address settings air count low high e h = absurd (omega (arith, low))
 last_of_four (a ∷ []) item address settings air count low high e h = absurd (omega (arith, low))
 last_of_four (a ∷ b ∷ []) item address settings air count low high e h = absurd (omega (arith, low))
 last_of_four (a ∷ b ∷ c ∷ []) item address settings air count low high e h = absurd (omega (arith, low))
 last_of_four (a ∷ b ∷ c ∷ d ∷ []) item address settings air count low high e h =
-    subst (λ (w : String Global). IsCountWord (string_bytes w) count) (sym e) h.6
+    subst (λ (w : String Global). IsCountWord 1000 (string_bytes w) count) (sym e) h.6
 last_of_four (a ∷ b ∷ c ∷ d ∷ f ∷ words) item address settings air count low high e h = absurd (omega (arith, high))
 
 -- the last of three words
@@ -74,6 +74,7 @@ files_differ words None h = tt
 files_differ [] (Some (WriteLine air line seed)) h = elim h [ ]
 files_differ (name ∷ words) (Some (WriteLine air line seed)) h = line_differs words air line seed h.1
 files_differ words (Some (One capcode)) h = tt
+files_differ words (Some (Load seed count)) h = tt
 files_differ words (Some (Play air receivers)) h = tt
 files_differ words (Some (PlayLine line receivers)) h = tt
 files_differ words (Some (Show air)) h = tt

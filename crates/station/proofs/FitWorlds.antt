@@ -29,7 +29,7 @@ use Rattle.endings.specs.declared.statuses.Status.{Status}
 use Rattle.endings.specs.declared.statuses.Status.TheVariants.{Done, Usage, Settings, FileFault, WireFault, OutFault, InputFault, NotBlock, BadSum, BadText, TooLong, LogonRefused, SomeUnsent, Memory, BadPages}
 use Rattle.station.specs.AirRoom.{most_air, most_said}
 use Rattle.station.specs.AlphaPage.{alpha_page}
-use Rattle.station.specs.Commands.{Command, One, Play, PlayLine, Send, Show, Snpp, Station, Trial, WriteLine}
+use Rattle.station.specs.Commands.{Command, Load, One, Play, PlayLine, Send, Show, Snpp, Station, Trial, WriteLine}
 use Rattle.station.specs.FitWorlds.{roomy_connection, AreSteady, FitErrWithRoom, FitInMemory, FitWithRoom, HasFiles, longest_line_about, world, roomy}
 use Rattle.station.specs.LoneBlock.{HasText}
 use Rattle.station.specs.OneOutcome.{bits_listened}
@@ -42,6 +42,8 @@ use Rattle.serving.specs.ReportLine.{longest_line}
 use Rattle.station.specs.Rows.{Acts, Objects, around}
 use Rattle.serving.specs.TapSessions.{SessionOf}
 use Rattle.endings.specs.Statuses.{status_line}
+use Rattle.load.specs.Report.{load_lines}
+use Rattle.load.specs.declared.report.Report.{Report}
 use Rattle.listening.specs.Table.{table_of}
 use Rattle.serving.specs.Trying.{trial_lines}
 use Rattle.station.proofs.AirRooms.{air_few}
@@ -51,6 +53,7 @@ use Rattle.serving.proofs.Protocols.{exists_in}
 use Rattle.serving.specs.Protocols.{IsSessionIn, Protocol, SessionIn, snpp, spoken, tap}
 use Rattle.station.proofs.CallRooms.{call_fits}
 use Rattle.station.proofs.EntryNumbers.{refusal_few}
+use Rattle.load.proofs.OneReport.{load_report, one_report}
 use Rattle.air.proofs.OneAir.{one_air}
 
 -- ---- sums of the first values of a function
@@ -185,6 +188,10 @@ fit_with_room (Some (One capcode)) old s h = (
     room = λ body text bits is has air. let a = one_fits capcode body text bits has air in omega (arith, a, le);
   },
 )
+fit_with_room (Some (Load seed count)) old s h = (
+  length (load_lines (load_report seed count)),
+  λ room le. record { tells = s.out_tells; steady = s.out_steady; room = λ report is. let e = ap (λ (r : Report). length (load_lines r)) (one_report seed count report is) in omega (arith, e, le) },
+)
 fit_with_room (Some (Play air receivers)) old s h = (length (play_lines receivers (bits_listened air old.shelf)), λ room le. (record { tells = s.shelf_tells; steady = s.shelf_steady; there = h }, record { tells = s.out_tells; steady = s.out_steady; room = le }))
 fit_with_room (Some (PlayLine line receivers)) old s h =
     (length (play_lines receivers (sampled_bits (bits_listened line old.shelf))), λ room le. (record { tells = s.shelf_tells; steady = s.shelf_steady; there = h }, record { tells = s.out_tells; steady = s.out_steady; room = le }))
@@ -235,6 +242,9 @@ err_few None old new outcome h = omega (arith, ap (λ (z : Outcome). length (lin
 err_few (Some (One capcode)) old new (Ended status) h = let a = status_few status in omega (arith, a)
 err_few (Some (One capcode)) old new (Refused fault) h = elim h [ ]
 err_few (Some (One capcode)) old new (Misread fault) h = elim h [ ]
+err_few (Some (Load seed count)) old new (Ended status) h = let a = status_few status in omega (arith, a)
+err_few (Some (Load seed count)) old new (Refused fault) h = elim h [ ]
+err_few (Some (Load seed count)) old new (Misread fault) h = elim h [ ]
 err_few (Some (Play air receivers)) old new (Ended status) h = let a = status_few status in omega (arith, a)
 err_few (Some (Play air receivers)) old new (Refused fault) h = elim h [ ]
 err_few (Some (Play air receivers)) old new (Misread fault) h = elim h [ ]
@@ -273,6 +283,7 @@ fit_err_with_room command old tells steady le = record {
 has_files : (command : Option Command) (heard input : List ℕ) (file : List ℕ → List ℕ) → HasFiles command (world heard file input)
 has_files None heard input file = tt
 has_files (Some (One capcode)) heard input file = tt
+has_files (Some (Load seed count)) heard input file = tt
 has_files (Some (Play air receivers)) heard input file = refl
 has_files (Some (PlayLine line receivers)) heard input file = refl
 has_files (Some (WriteLine air line seed)) heard input file = (refl, inl refl)

@@ -21,6 +21,7 @@ pub mod Delivered
 pub mod Told
 pub mod OneOutcomes
 pub mod OneLines
+pub mod OneLoads
 pub mod OneBytes
 pub mod OneOfOne
 pub mod OneServings

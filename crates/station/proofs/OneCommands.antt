@@ -1,12 +1,13 @@
 -- Words are one command's at most.
 use Rattle.std.proofs.Common.{◌≡◌, ℕ, ◌+◌, List, [], ◌∷◌, Option, Some, None, get_or, length, refl, sym, ◌∙◌, ap, ap₂, arith}
-use Rattle.station.specs.Commands.{AreCommand, AreLine, AreOne, ArePlay, AreSend, AreShow, AreStation, AreTrial, Command, IsCommand, IsReceiverWord, One, Play, PlayLine, Say, Send, Show, Snpp, Station, Trial, WriteLine}
+use Rattle.station.specs.Commands.{AreCommand, AreLine, AreLoad, AreOne, ArePlay, AreSend, AreShow, AreStation, AreTrial, Command, IsCommand, IsReceiverWord, Load, One, Play, PlayLine, Say, Send, Show, Snpp, Station, Trial, WriteLine}
 use Rattle.station.proofs.ListedCapcodes.{one_receiver}
 use Rattle.station.proofs.Saying.{Say-one}
 
 -- the second letter of a command's name, and its length, added
 mark : Command → ℕ
 mark (One capcode) = 113
+mark (Load seed count) = 115
 mark (Play air receivers) = 112
 mark (PlayLine line receivers) = 117
 mark (WriteLine air line seed) = 109
@@ -19,6 +20,7 @@ mark (Send address pages) = 105
 mark_is : (name : List ℕ) (words : List (List ℕ)) (command : Command) → IsCommand (name ∷ words) command → get_or name 1 0 + length name ≡ mark command
 unfolding mark
 mark_is name words (One capcode) h = ap (λ (l : List ℕ). get_or l 1 0 + length l) h.0
+mark_is name words (Load seed count) h = ap (λ (l : List ℕ). get_or l 1 0 + length l) h.0
 mark_is name words (Play air receivers) h = ap (λ (l : List ℕ). get_or l 1 0 + length l) h.0
 mark_is name words (PlayLine line receivers) h = ap (λ (l : List ℕ). get_or l 1 0 + length l) h.0
 mark_is name words (WriteLine air line seed) h = ap (λ (l : List ℕ). get_or l 1 0 + length l) h.0
@@ -35,6 +37,12 @@ one_one : (words : List (List ℕ)) (a b : ℕ) → AreOne words a → AreOne wo
 one_one [] a b h k = elim h [ ]
 one_one (word ∷ []) a b h k = ap One (k.value ∙ sym h.value)
 one_one (word ∷ other ∷ words) a b h k = elim h [ ]
+
+one_load : (words : List (List ℕ)) (a b m n : ℕ) → AreLoad words a m → AreLoad words b n → Load b n ≡ Load a m
+one_load [] a b m n h k = elim h [ ]
+one_load (word ∷ []) a b m n h k = elim h [ ]
+one_load (word ∷ other ∷ []) a b m n h k = ap₂ Load (k.0.value ∙ sym h.0.value) (k.1.value ∙ sym h.1.value)
+one_load (word ∷ other ∷ third ∷ words) a b m n h k = elim h [ ]
 
 one_play : (words : List (List ℕ)) (air air2 : List ℕ) (rs rs2 : List (List ℕ)) → ArePlay words air rs → ArePlay words air2 rs2 → Play air2 rs2 ≡ Play air rs
 one_play [] air air2 rs rs2 h k = elim h [ ]
@@ -82,6 +90,7 @@ one_some : (words : List (List ℕ)) (a b : Command) → IsCommand words a → I
 unfolding mark
 one_some [] a b h k = elim h [ ]
 one_some (name ∷ words) (One a) (One b) h k = one_one words a b h.1 k.1
+one_some (name ∷ words) (Load a m) (Load b n) h k = one_load words a b m n h.1 k.1
 one_some (name ∷ words) (Play a c) (Play b d) h k = one_play words a b c d h.1 k.1
 one_some (name ∷ words) (PlayLine a c) (PlayLine b d) h k = one_play_line words a b c d h.1 k.1
 one_some (name ∷ words) (WriteLine a l s) (WriteLine a2 l2 s2) h k = one_line words a a2 l l2 s s2 h.1 k.1

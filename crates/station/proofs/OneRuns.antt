@@ -7,7 +7,7 @@ use Rattle.station.specs.declared.outcomes.Outcome.{Outcome}
 use Rattle.station.specs.declared.outcomes.Outcome.TheVariants.{Ended, Misread, Refused}
 use Rattle.endings.specs.declared.statuses.Status.{Status}
 use Rattle.endings.specs.declared.statuses.Status.TheVariants.{BadPages, Done, Memory, OutFault, Settings}
-use Rattle.station.specs.Commands.{Command, One, Play, PlayLine, Send, Show, Snpp, Station, Trial, WriteLine}
+use Rattle.station.specs.Commands.{Command, Load, One, Play, PlayLine, Send, Show, Snpp, Station, Trial, WriteLine}
 use Rattle.serving.specs.Protocols.{snpp, tap}
 use Rattle.station.specs.OneRun.{FitRun, OneRun}
 use Rattle.station.specs.Outcomes.{Tells, TellsMisread, TellsOutcome, TellsRefusal, line_about, pages_line, settings_line}
@@ -18,6 +18,7 @@ use Rattle.station.proofs.LeftAlike.{kept_alike}
 use Rattle.endings.specs.Wrote.{FitFor}
 use Rattle.station.proofs.OneCommands.{one_command}
 use Rattle.station.proofs.OneOfOne.{one_one}
+use Rattle.station.proofs.OneLoads.{one_load}
 use Rattle.station.proofs.OneOutcomes.{one_play, one_play_line, one_show}
 use Rattle.station.proofs.OneLines.{one_write_line}
 use Rattle.station.proofs.OneSends.{one_send}
@@ -74,6 +75,8 @@ acts_alike None old new other outcome another fit h k some some2 =
     (k.0 ∙ sym h.0, subst (λ (x : Objects). LeftAlike x other) (k.1 ∙ sym h.1) (kept_alike other other other refl refl (λ j. refl) refl))
 acts_alike (Some (One capcode)) old new other outcome another fit h k some some2 =
     came_alike _ _ outcome another (λ s t a b n m. one_one capcode old new other s t fit a b n m) h k some some2
+acts_alike (Some (Load seed count)) old new other outcome another fit h k some some2 =
+    came_alike _ _ outcome another (λ s t a b n m. one_load seed count old new other s t fit a b n m) h k some some2
 acts_alike (Some (Play air receivers)) old new other outcome another fit h k some some2 =
     came_alike _ _ outcome another (λ s t a b n m. one_play receivers air old new other s t fit.0 fit.1 a b n m) h k some some2
 acts_alike (Some (PlayLine line receivers)) old new other outcome another fit h k some some2 =

@@ -30,7 +30,7 @@ use Rattle.serving.proofs.WholeSessions.{turn-wholes}
 use Rattle.station.specs.declared.outcomes.Outcome.{Outcome}
 use Rattle.station.specs.declared.outcomes.Outcome.TheVariants.{Ended, Misread, Refused}
 use Rattle.endings.specs.declared.statuses.Status.TheVariants.{Done, FileFault, OutFault, Usage, WireFault}
-use Rattle.station.specs.Commands.{AreCommand, Command, IsCapcodeWord, IsReceiverWord, One, Play, PlayLine, Say, Send, Show, Snpp, Station, Trial, WriteLine, plus_parts}
+use Rattle.station.specs.Commands.{AreCommand, Command, IsCapcodeWord, IsReceiverWord, Load, One, Play, PlayLine, Say, Send, Show, Snpp, Station, Trial, WriteLine, plus_parts}
 use Rattle.near.specs.NearAir.{AreUsable}
 use Rattle.station.specs.Promises.{AcceptedWhileFit, AreAccepted, FaultPromise, FilePromise, HearLists, HearNear, HearNearLine, HearsTrial, QueuedAtSends, ServedSend, StationPromise, TrialPromise, accepted_in}
 use Rattle.station.specs.ReadFile.{ReadSettings, Unreadable}
@@ -213,6 +213,7 @@ pub promised : (words : List (List ℕ)) (command : Option Command) (old new : O
     → Promises command old new outcome acts
 promised words None old new outcome acts h = tt
 promised words (Some (One capcode)) old new outcome acts h = tt
+promised words (Some (Load seed count)) old new outcome acts h = tt
 promised [] (Some (Play air receivers)) old new outcome acts h = elim h [ ]
 promised (name ∷ []) (Some (Play air receivers)) old new outcome acts h = elim h.1 [ ]
 promised (name ∷ w ∷ words) (Some (Play air receivers)) old new outcome acts h =

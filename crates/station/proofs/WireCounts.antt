@@ -13,7 +13,7 @@ use Rattle.wires.specs.Line.{Line}
 use Rattle.wires.specs.Written.{Written}
 use Rattle.calling.specs.Calls.{CallsUp, SendsSo}
 use Rattle.station.specs.SendRows.{SendRow}
-use Rattle.station.specs.Commands.{Command, One, Play, PlayLine, Send, Show, Snpp, Station, Trial, WriteLine}
+use Rattle.station.specs.Commands.{Command, Load, One, Play, PlayLine, Send, Show, Snpp, Station, Trial, WriteLine}
 use Rattle.station.specs.Rows.{Acts, HasEndedSo, Objects, Outside, Runs}
 use Rattle.serving.specs.Protocols.{Protocol, snpp, tap}
 use Rattle.serving.specs.Serving.{Around, HasServed}
@@ -64,6 +64,7 @@ came row (Misread fault) x y f h = elim h [ ]
 count-acts : (command : Option Command) (old new : Objects) (outcome : Outcome) → Acts command old new outcome → new.wire.count ≡ old.wire.count
 count-acts None old new outcome h = ap (λ objects. objects.wire.count) h.1
 count-acts (Some (One capcode)) old new outcome h = came _ outcome new.wire.count old.wire.count (λ status r. ap (λ wire. wire.count) r.wire) h
+count-acts (Some (Load seed count)) old new outcome h = came _ outcome new.wire.count old.wire.count (λ status r. ap (λ wire. wire.count) r.wire) h
 count-acts (Some (Play air receivers)) old new outcome h = came _ outcome new.wire.count old.wire.count (λ status r. ap (λ wire. wire.count) r.wire) h
 count-acts (Some (PlayLine line receivers)) old new outcome h = came _ outcome new.wire.count old.wire.count (λ status r. ap (λ wire. wire.count) r.wire) h
 count-acts (Some (WriteLine air line seed)) old new outcome h = came _ outcome new.wire.count old.wire.count (λ status r. ap (λ wire. wire.count) r.wire) h

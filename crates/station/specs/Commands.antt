@@ -9,6 +9,8 @@ use Rattle.codeword.specs.Capcodes.{IsUsable}
 pub data Command : Type 0 where
   -- one CAPCODE: sends the page of one block to this capcode
   One : ℕ → Command
+  -- load SEED COUNT: makes a session of so many pages from this seed, and prints six lines about what is heard of them through two noises
+  Load : ℕ → ℕ → Command
   -- play AIR RECEIVER ..: prints the pages that receivers, each of these capcodes, hear in the bits of this file
   Play : List ℕ → List (List ℕ) → Command
   -- play-line LINE RECEIVER ..: prints the pages that receivers, each of these capcodes, hear in the bits of the samples in this file
@@ -63,12 +65,12 @@ pub record AreReceiverWords (words : List (List ℕ)) (receivers : List (List �
   pub some : 0 < length receivers
   pub few : length receivers ≤ 64
 
--- a number from 1 to 1,000 in decimal digits, with zeros in front or not
-pub record IsCountWord (word : List ℕ) (count : ℕ) : Type 0 where
+-- a number from 1 to the most in decimal digits, with zeros in front or not
+pub record IsCountWord (most : ℕ) (word : List ℕ) (count : ℕ) : Type 0 where
   pub digits : IsNumeral 10 word
   pub value : count ≡ digits_value 10 word
   pub some : 1 ≤ count
-  pub few : count ≤ 1000
+  pub few : count ≤ most
 
 -- a number below 2^64 in decimal digits, with zeros in front or not
 pub record IsSeedWord (word : List ℕ) (seed : ℕ) : Type 0 where
@@ -97,7 +99,7 @@ AreLine words air line seed = ⊥
 -- what follows `station` and `snpp`, and what follows `trial`
 abbrev pub AreStation : List (List ℕ) → List ℕ → List ℕ → List ℕ → ℕ → Type 0
 AreStation (a ∷ s ∷ f ∷ n ∷ []) address settings air count =
-    (a ≡ address) × (s ≡ settings) × (f ≡ air) × IsName address × IsName settings × IsName air × IsCountWord n count
+    (a ≡ address) × (s ≡ settings) × (f ≡ air) × IsName address × IsName settings × IsName air × IsCountWord 1000 n count
 AreStation words address settings air count = ⊥
 
 abbrev pub AreTrial : List (List ℕ) → List ℕ → List ℕ → List (List ℕ) → Type 0
@@ -113,10 +115,16 @@ abbrev pub AreOne : List (List ℕ) → ℕ → Type 0
 AreOne (word ∷ []) capcode = IsCapcodeWord word capcode
 AreOne words capcode = ⊥
 
+-- what follows `load`
+abbrev pub AreLoad : List (List ℕ) → ℕ → ℕ → Type 0
+AreLoad (s ∷ c ∷ []) seed count = IsSeedWord s seed × IsCountWord 10000 c count
+AreLoad words seed count = ⊥
+
 -- the words after the program's name are this command's
 abbrev pub IsCommand : List (List ℕ) → Command → Type 0
 IsCommand [] command = ⊥
 IsCommand (name ∷ words) (One capcode) = (name ≡ codes "one") × AreOne words capcode
+IsCommand (name ∷ words) (Load seed count) = (name ≡ codes "load") × AreLoad words seed count
 IsCommand (name ∷ words) (Play air receivers) = (name ≡ codes "play") × ArePlay words air receivers
 IsCommand (name ∷ words) (PlayLine line receivers) = (name ≡ codes "play-line") × ArePlay words line receivers
 IsCommand (name ∷ words) (WriteLine air line seed) = (name ≡ codes "line") × AreLine words air line seed

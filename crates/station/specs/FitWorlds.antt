@@ -7,7 +7,7 @@ use Rattle.wires.specs.Left.{Left}
 use Rattle.wires.specs.Line.{Line}
 use Rattle.wires.specs.Stacked.{are_bytes}
 use Rattle.wires.specs.Written.{Written}
-use Rattle.station.specs.Commands.{Command, One, Play, PlayLine, Send, Show, Snpp, Station, Trial, WriteLine}
+use Rattle.station.specs.Commands.{Command, Load, One, Play, PlayLine, Send, Show, Snpp, Station, Trial, WriteLine}
 use Rattle.station.specs.OneRun.{FitErr, FitRun}
 use Rattle.station.specs.Rows.{Objects, Outside, Streams}
 
@@ -46,6 +46,7 @@ roomy room old = record { wire = roomy_wire room old.wire; shelf = roomy_shelf r
 abbrev pub HasFiles : Option Command → Objects → Type 0
 HasFiles None old = Unit {0}
 HasFiles (Some (One capcode)) old = Unit {0}
+HasFiles (Some (Load seed count)) old = Unit {0}
 HasFiles (Some (Play air receivers)) old = IsTrue (old.shelf.there air)
 HasFiles (Some (PlayLine line receivers)) old = IsTrue (old.shelf.there line)
 HasFiles (Some (WriteLine air line seed)) old = IsTrue (old.shelf.there air) × CanBeFresh line old.shelf

@@ -13,9 +13,13 @@ use Rattle.station.specs.AlphaPage.{alpha_page}
 use Rattle.listening.specs.Listening.{most_bits}
 use Rattle.station.specs.LoneBlock.{HasText, IsMarkedBlock}
 use Rattle.listening.specs.PageLines.{play_lines}
-use Rattle.station.specs.Rows.{Objects, RunsOne, RunsPlay, RunsPlayLine, RunsShow, RunsWriteLine, Streams}
+use Rattle.load.specs.Loads.{IsLoad}
+use Rattle.load.specs.Report.{load_lines}
+use Rattle.load.specs.declared.report.Report.{Report}
+use Rattle.station.specs.Rows.{Objects, RunsLoad, RunsOne, RunsPlay, RunsPlayLine, RunsShow, RunsWriteLine, Streams}
 use Rattle.listening.specs.Table.{table_of}
 use Rattle.endings.specs.Wrote.{FitFor}
+use Rattle.wires.specs.Written.{Written}
 
 -- Two runs left the same bytes: in the output, in each file, and said on each connection. What was read at a time, and how far a
 -- connection was read beyond the end of its session, may differ.
@@ -83,4 +87,16 @@ pub record FitOne (capcode : ℕ) (old : Streams) : Type 0 where
 abbrev pub OneOne : Type 0
 OneOne = (capcode : ℕ) (old new other : Objects) (status another : Status) → FitOne capcode old.streams
     → RunsOne capcode old new status → RunsOne capcode old other another → status ≢ Memory → another ≢ Memory
+    → (another ≡ status) × LeftAlike new other
+
+-- The output is steady, and has room for the six lines of the run.
+pub record FitLoad (seed count : ℕ) (out : Written ℕ) : Type 0 where
+  pub tells : IsTrue out.tells
+  pub steady : IsTrue out.steady
+  pub room : (report : Report) → IsLoad seed count report → length (load_lines report) ≤ out.room
+
+-- Over a steady output with room, two runs of `load` that had memory answer the same, and leave the same.
+abbrev pub OneLoad : Type 0
+OneLoad = (seed count : ℕ) (old new other : Objects) (status another : Status) → FitLoad seed count old.streams.out
+    → RunsLoad seed count old new status → RunsLoad seed count old other another → status ≢ Memory → another ≢ Memory
     → (another ≡ status) × LeftAlike new other

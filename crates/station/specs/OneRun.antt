@@ -4,8 +4,8 @@ use Rattle.station.specs.declared.outcomes.Outcome.{Outcome}
 use Rattle.sampler.specs.Runs.{sampled_bits}
 use Rattle.endings.specs.declared.statuses.Status.{Status}
 use Rattle.endings.specs.declared.statuses.Status.TheVariants.{Memory}
-use Rattle.station.specs.Commands.{AreCommand, Command, One, Play, PlayLine, Send, Show, Snpp, Station, Trial, WriteLine}
-use Rattle.station.specs.OneOutcome.{FitFile, FitOne, FitWriteLine, LeftAlike, bits_listened}
+use Rattle.station.specs.Commands.{AreCommand, Command, Load, One, Play, PlayLine, Send, Show, Snpp, Station, Trial, WriteLine}
+use Rattle.station.specs.OneOutcome.{FitFile, FitLoad, FitOne, FitWriteLine, LeftAlike, bits_listened}
 use Rattle.station.specs.OneSend.{FitSend}
 use Rattle.station.specs.OneStation.{FitStation}
 use Rattle.station.specs.OneTrial.{FitTrial}
@@ -20,6 +20,7 @@ use Rattle.endings.specs.Wrote.{FitFor}
 abbrev pub FitRun : Option Command → Objects → Type 0
 FitRun None old = Unit {0}
 FitRun (Some (One capcode)) old = FitOne capcode old.streams
+FitRun (Some (Load seed count)) old = FitLoad seed count old.streams.out
 FitRun (Some (Play air receivers)) old = FitFile air old.shelf × FitFor old.streams.out (play_lines receivers (bits_listened air old.shelf))
 FitRun (Some (PlayLine line receivers)) old = FitFile line old.shelf × FitFor old.streams.out (play_lines receivers (sampled_bits (bits_listened line old.shelf)))
 FitRun (Some (WriteLine air line seed)) old = FitWriteLine air line old.shelf

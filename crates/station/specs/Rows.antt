@@ -11,7 +11,8 @@ use Rattle.wires.specs.Written.{Written}
 use Rattle.endings.specs.declared.statuses.Status.{Status}
 use Rattle.endings.specs.declared.statuses.Status.TheVariants.{BadSum, BadText, Done, InputFault, Memory, NotBlock, OutFault, Usage}
 use Rattle.station.specs.AlphaPage.{alpha_page}
-use Rattle.station.specs.Commands.{AreCommand, Command, One, Play, PlayLine, Send, Show, Snpp, Station, Trial, WriteLine}
+use Rattle.station.specs.Commands.{AreCommand, Command, Load, One, Play, PlayLine, Send, Show, Snpp, Station, Trial, WriteLine}
+use Rattle.load.specs.Loads.{Loads}
 use Rattle.listening.specs.HeardFile.{HearsFile, Plays}
 use Rattle.listening.specs.HeardLine.{PlaysSamples}
 use Rattle.line_writer.specs.LineFile.{WritesLine}
@@ -112,6 +113,13 @@ pub record RunsOne (capcode : ℕ) (old new : Objects) (status : Status) : Type 
   pub wire : new.wire ≡ old.wire
   pub shelf : new.shelf ≡ old.shelf
 
+-- `load`: the six lines about the run of the seed, with so many pages, were put. Wire, shelf and input are as before.
+pub record RunsLoad (seed count : ℕ) (old new : Objects) (status : Status) : Type 0 where
+  pub row : Loads seed count old.streams.out new.streams.out status
+  pub wire : new.wire ≡ old.wire
+  pub shelf : new.shelf ≡ old.shelf
+  pub input : new.streams.input ≡ old.streams.input
+
 -- `play` and `show`: what is heard of the bits of a file was printed. Wire and input are as before. Where there was no memory for
 -- the receivers of `play`, nothing is touched.
 pub record RunsPlay (receivers : List (List ℕ)) (air : List ℕ) (old new : Objects) (status : Status) : Type 0 where
@@ -164,6 +172,7 @@ HasEndedSo row (Misread fault) = ⊥
 abbrev pub Acts : Option Command → Objects → Objects → Outcome → Type 0
 Acts None old new outcome = (outcome ≡ Ended Usage) × (new ≡ old)
 Acts (Some (One capcode)) old new outcome = HasEndedSo (RunsOne capcode old new) outcome
+Acts (Some (Load seed count)) old new outcome = HasEndedSo (RunsLoad seed count old new) outcome
 Acts (Some (Play air receivers)) old new outcome = HasEndedSo (RunsPlay receivers air old new) outcome
 Acts (Some (PlayLine line receivers)) old new outcome = HasEndedSo (RunsPlayLine receivers line old new) outcome
 Acts (Some (WriteLine air line seed)) old new outcome = HasEndedSo (RunsWriteLine air line seed old new) outcome
@@ -174,10 +183,11 @@ Acts (Some (Trial settings noise receivers)) old new outcome = RunsTrial setting
 Acts (Some (Send address pages)) old new outcome = RunsSend address pages old new outcome
 
 -- What a command promises of the pages that receivers hear: `play` of the bits of its file, `play-line` of the samples in its file, `trial` of the session that it tried, and
--- `station` and `snpp` of the transmissions that they sent.
+-- `station` and `snpp` of the transmissions that they sent. What `load` promises of its pages is part of its report.
 abbrev pub Promises : (command : Option Command) (old new : Objects) (outcome : Outcome) → Acts command old new outcome → Type 0
 Promises None old new outcome acts = Unit {0}
 Promises (Some (One capcode)) old new outcome acts = Unit {0}
+Promises (Some (Load seed count)) old new outcome acts = Unit {0}
 Promises (Some (Play air receivers)) old new outcome acts = HearNear receivers (bytes_bits (old.shelf.file air))
 Promises (Some (PlayLine line receivers)) old new outcome acts = HearNearLine receivers (bytes_bits (old.shelf.file line))
 Promises (Some (WriteLine air line seed)) old new outcome acts = Unit {0}

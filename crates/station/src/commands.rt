@@ -1,7 +1,7 @@
 //! The command lines: docs/profile.md, "command lines".
 
-ghost use Rattle.std.specs.Prelude.{◌≡◌, ℕ, List, MatchOption};
-ghost use Rattle.station.specs.Commands.{AreCommand, AreOne, ArePlay, AreSend, AreShow, AreStation, AreLine, AreTrial, IsCountWord, IsSeedWord, texts};
+ghost use Rattle.std.specs.Prelude.{◌≡◌, ℕ, ◌≤◌, List, MatchOption};
+ghost use Rattle.station.specs.Commands.{AreCommand, AreLoad, AreOne, ArePlay, AreSend, AreShow, AreStation, AreLine, AreTrial, IsCountWord, IsSeedWord, texts};
 ghost use Rattle.station.specs.Meant.{meant};
 
 use crate::capcodes::capcode_of;
@@ -13,6 +13,8 @@ use codeword::Capcode;
 pub(crate) enum CommandLine<'a> {
     /// `one CAPCODE`
     One(Capcode),
+    /// `load SEED COUNT`
+    Load(LoadRun),
     /// `play AIR RECEIVER ..`
     Play(&'a str, Receivers),
     /// `play-line LINE RECEIVER ..`
@@ -31,6 +33,15 @@ pub(crate) enum CommandLine<'a> {
     Send(&'a str, &'a str),
 }
 
+/// What follows `load`: a seed, and a count of pages.
+#[derive(Clone, Copy)]
+pub(crate) struct LoadRun {
+    pub(crate) seed: u64,
+    pub(crate) count: u32,
+    ghost some: { 1 ≤ count },
+    ghost few: { count ≤ 10000 },
+}
+
 /// What follows `station` and `snpp`.
 #[derive(Clone, Copy)]
 pub(crate) struct StationLine<'a> {
@@ -43,9 +54,12 @@ pub(crate) struct StationLine<'a> {
 /// The most connections that a command line may ask for.
 const MOST_CONNECTIONS: u32 = 1000;
 
-/// The number from 1 to 1,000 that a word of decimal digits says, without sign. None exactly where it says none.
-fn count_of(word: &str) -> Option<u32>
-    ensures { MatchOption result ((count : ℕ) → IsCountWord word.now count → ⊥) (λ count. IsCountWord word.now count) }
+/// The most pages.
+const MOST_PAGES: u32 = 10_000;
+
+/// The number from 1 to the most that a word of decimal digits says, without sign. None exactly where it says none.
+fn count_of(word: &str, most: u32) -> Option<u32>
+    ensures { MatchOption result ((count : ℕ) → IsCountWord most word.now count → ⊥) (λ count. IsCountWord most word.now count) }
 {
     if word.starts_with('+') {
         return None;
@@ -53,7 +67,7 @@ fn count_of(word: &str) -> Option<u32>
     let Ok(count) = word.parse::<u32>() else {
         return None;
     };
-    if count < 1 || count > MOST_CONNECTIONS {
+    if count < 1 || count > most {
         return None;
     }
     Some(count)
@@ -100,7 +114,7 @@ fn station_line(words: &[String]) -> Option<StationLine<'_>>
     if address.is_empty() || settings.is_empty() || air.is_empty() {
         return None;
     }
-    let Some(count) = count_of(count.as_str()) else {
+    let Some(count) = count_of(count.as_str(), MOST_CONNECTIONS) else {
         return None;
     };
     Some(StationLine {
@@ -151,6 +165,22 @@ fn one_line(words: &[String]) -> Option<Capcode>
     capcode_of(word.as_str())
 }
 
+/// Reads what follows `load`.
+fn load_line(words: &[String]) -> Option<LoadRun>
+    ensures { MatchOption result ((seed count : ℕ) → AreLoad (texts words.now) seed count → ⊥) (λ run. AreLoad (texts words.now) run.seed run.count) }
+{
+    let [seed, count] = words else {
+        return None;
+    };
+    let Some(seed) = seed_of(seed.as_str()) else {
+        return None;
+    };
+    let Some(count) = count_of(count.as_str(), MOST_PAGES) else {
+        return None;
+    };
+    Some(LoadRun { seed, count })
+}
+
 /// Reads what follows `show`.
 fn show_line(words: &[String]) -> Option<&str>
     ensures { MatchOption result ((air : List ℕ) → AreShow (texts words.now) air → ⊥) (λ air. AreShow (texts words.now) air.now) }
@@ -188,6 +218,10 @@ pub(crate) fn parse(words: &[String]) -> Option<CommandLine<'_>>
     match name.as_str() {
         "one" => match one_line(rest) {
             Some(capcode) => Some(CommandLine::One(capcode)),
+            None => None,
+        },
+        "load" => match load_line(rest) {
+            Some(run) => Some(CommandLine::Load(run)),
             None => None,
         },
         "play" => match play_line(rest) {

@@ -9,7 +9,7 @@ ghost use Rattle.station.specs.FitWorlds.{FitErrWithRoom, FitInMemory, FitWithRo
 ghost use Rattle.serving.specs.InTurn.{AllInTurn};
 ghost use Rattle.serving.specs.Protocols.{snpp, tap};
 ghost use Rattle.station.specs.LoneBlock.{HasText, IsMarkedBlock};
-ghost use Rattle.station.specs.OneOutcome.{OneOne, OnePlay, OnePlayLine, OneShow, OneWriteLine};
+ghost use Rattle.station.specs.OneOutcome.{OneLoad, OneOne, OnePlay, OnePlayLine, OneShow, OneWriteLine};
 ghost use Rattle.station.specs.OneRun.{OneRun};
 ghost use Rattle.station.specs.OneSend.{OneSend};
 ghost use Rattle.station.specs.OneStation.{OneStation};
@@ -49,6 +49,7 @@ pub fn one_outcome()
     ensures write_line { OneWriteLine }
     ensures show { OneShow }
     ensures one { OneOne }
+    ensures load { OneLoad }
     ensures station { OneStation tap }
     ensures snpp { OneStation snpp }
     ensures trial { OneTrial }

@@ -13,7 +13,7 @@
 //! - `laws`: what one run comes to, the way from clients to receivers, and the room that a station takes.
 //!
 //! The parts that a command is made of are crates of their own: `listening` (bits to printed lines), `calling` (the client),
-//! `serving` (the station), and `endings` (how a run ends); `near` and `both_ends` have the laws of the air and of the line.
+//! `serving` (the station), `load` (the load mode), and `endings` (how a run ends); `near` and `both_ends` have the laws of the air and of the line.
 #![tactic(auto)]
 
 mod capcodes;
@@ -32,6 +32,7 @@ pub mod top;
 pub use calling::send;
 pub use endings::Status;
 pub use listening::{play, show};
+pub use load::load;
 pub use one_page::one;
 pub use outcomes::tell;
 pub use serving::{SessionEnd, Station};

@@ -17,6 +17,7 @@ use crate::settings_runs::{run_snpp, run_station, run_trial};
 use endings::statuses::Status;
 use line_writer::write_line;
 use listening::hearing::{play_file, play_samples, show_file};
+use load::running::load;
 use std::alloc::Global;
 use wires::Memory;
 use wires::shelf::Shelf;
@@ -44,6 +45,7 @@ fn act<W: Wire, F: Shelf, I: Source, O: Sink>(
     };
     match line {
         CommandLine::One(capcode) => Outcome::Ended(one(alloc, capcode, input, out)),
+        CommandLine::Load(run) => Outcome::Ended(load(alloc, run.seed, run.count, out)),
         CommandLine::Play(air, receivers) => {
             Outcome::Ended(play_air(alloc, air, &receivers, shelf, out))
         }

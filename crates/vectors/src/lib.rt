@@ -5,6 +5,7 @@
 //! - `blocks`: blocks of the entry line with their sums.
 //! - `runs`: a run of the program over objects in memory, and `airs`, the bytes of transmissions.
 //! - `one_page`: runs of `one`.
+//! - `loads`: runs of `load`.
 //! - `lines`: runs of `line`, and what `play-line` then prints.
 //! - `receivers`: runs of `play`, `play-line` and `show`.
 //! - `sessions`: runs of `station`, what `play` then prints, and `accepted` and `refused`, the tables of these sessions.
@@ -34,6 +35,8 @@ mod cuts;
 mod failing_calls;
 #[cfg(test)]
 mod lines;
+#[cfg(test)]
+mod loads;
 #[cfg(test)]
 mod long_calls;
 #[cfg(test)]

@@ -6,5 +6,5 @@ use Rattle.station.proofs.commands.station_line.Goals as goal
 pub returns-in_default-count_of : goal.returns-in_default-count_of
 returns-in_default-count_of c = λ address settings air count h.
     c.in_default-count_of.ensures count
-    (subst (λ (w : List ℕ). IsCountWord w count) (sym c.as_str.ensures.value)
+    (subst (λ (w : List ℕ). IsCountWord 1000 w count) (sym c.as_str.ensures.value)
     (last_of_four c.args.words.now c.count-item.result address settings air count c.in-len4.len_at_least c.in-len4.len_below c.count-item.is h))

@@ -2,6 +2,7 @@ use Rattle.serving.specs.Protocols.{snpp, tap}
 use Rattle.station.proofs.OneOfOne.{one_one}
 use Rattle.station.proofs.OneOutcomes.{one_play, one_play_line, one_show}
 use Rattle.station.proofs.OneLines.{one_write_line}
+use Rattle.station.proofs.OneLoads.{one_load}
 use Rattle.station.proofs.OneRuns.{one_run}
 use Rattle.station.proofs.OneSends.{one_send}
 use Rattle.station.proofs.OneStations.{one_station}
@@ -22,6 +23,9 @@ returns-clause-show c = one_show
 
 pub returns-clause-one : goal.returns-clause-one
 returns-clause-one c = one_one
+
+pub returns-clause-load : goal.returns-clause-load
+returns-clause-load c = one_load
 
 pub returns-clause-station : goal.returns-clause-station
 returns-clause-station c = one_station tap

@@ -1,17 +1,27 @@
--- What is near a transmission, word by word.
-use Rattle.std.proofs.Common.{◌≡◌, ℕ, zero, suc, ◌+◌, ◌*◌, ◌≤◌, Bool, List, [], ◌∷◌, ◌++◌, length, length-append, length-drop, length-take, take, drop, arith, refl, sym, ◌∙◌, ap}
-use Rattle.std.proofs.lemmas.List.{take_at, drop_at}
+-- Bits near the bits of words, behind a clean preamble.
+use Rattle.std.proofs.Common.{◌≡◌, ℕ, zero, suc, ◌+◌, ◌*◌, ◌≤◌, Bool, List, [], ◌∷◌, ◌++◌, length, length-append, length-drop, length-take, take, drop, replicate, arith, refl, sym, ◌∙◌, ap}
+use Rattle.std.proofs.lemmas.List.{take_at, drop_at, drop-drop}
 use Rattle.bits.specs.Bits.{word_bits, words_bits, dist}
 use Rattle.bits.proofs.Lengths.{length-bits_of, length-words_bits}
+use Rattle.bits.proofs.Bytes.{words_bits-append}
+use Rattle.codeword.specs.Words.{filler}
 use Rattle.air.specs.Air.{preamble}
 use Rattle.air.specs.Near.{IsNearAir, word_behind}
-use Rattle.near.proofs.NearWords.{air-parts, length-preamble_bits, word_at, word_at-later, word_behind-is}
 use Rattle.receiver.specs.Windows.{preamble_bits}
 
 -- each of the words is heard with at most two wrong bits
 unfoldable pub IsNearWords : List ℕ → List Bool → Type 0
 IsNearWords [] bits = bits ≡ []
 IsNearWords (u ∷ us) bits = (32 ≤ length bits) × (dist (take 32 bits) (word_bits u) ≤ 2) × IsNearWords us (drop 32 bits)
+
+-- the words of 32 bits, counted from 0
+abbrev word_at : ℕ → List Bool → List Bool
+word_at k bits = take 32 (drop (32 * k) bits)
+
+word_at-later : (k : ℕ) (bits : List Bool) → word_at (suc k) bits ≡ word_at k (drop 32 bits)
+word_at-later k bits =
+    let e : 32 * suc k ≡ 32 + 32 * k = omega arith in
+    ap (λ (n : ℕ). take 32 (drop n bits)) e ∙ ap (take 32) (sym (drop-drop (32 * k) 32 bits))
 
 near_same : {a b c d : List Bool} → dist a b ≤ 2 → a ≡ c → b ≡ d → dist c d ≤ 2
 near_same h e f = rw (← e) (rw (← f) h)
@@ -20,8 +30,7 @@ no_bits : (bits : List Bool) → length bits ≡ 0 → bits ≡ []
 no_bits [] h = refl
 no_bits (b ∷ bits) h = absurd (omega arith)
 
--- the words of such bits, by number
-pub near_words-at : (us : List ℕ) (bits : List Bool) → IsNearWords us bits → (k : ℕ) → dist (word_at k bits) (word_at k (words_bits us)) ≤ 2
+near_words-at : (us : List ℕ) (bits : List Bool) → IsNearWords us bits → (k : ℕ) → dist (word_at k bits) (word_at k (words_bits us)) ≤ 2
 unfolding IsNearWords
 near_words-at [] bits h k =
     let l = length-take 32 (drop (32 * k) bits) in
@@ -38,7 +47,7 @@ near_words-at (u ∷ us) bits h (suc k) =
     near_same (near_words-at us (drop 32 bits) h.2 k) (sym (word_at-later k bits))
     (ap (word_at k) (sym behind) ∙ sym (word_at-later k (words_bits (u ∷ us))))
 
-pub length-near_words : (us : List ℕ) (bits : List Bool) → IsNearWords us bits → length bits ≡ 32 * length us
+length-near_words : (us : List ℕ) (bits : List Bool) → IsNearWords us bits → length bits ≡ 32 * length us
 unfolding IsNearWords
 length-near_words [] bits h = ap length h ∙ omega arith
 length-near_words (u ∷ us) bits h =
@@ -47,13 +56,27 @@ length-near_words (u ∷ us) bits h =
     let a = h.0 in
     omega arith
 
--- A clean preamble, and a part that is near the words.
+-- a clean preamble, and a part that is near the words
 pub record PreambleAndWords (us : List ℕ) (heard : List Bool) : Type 0 where
   pub body : List Bool
   pub whole : heard ≡ preamble_bits 18 ++ body
   pub near : IsNearWords us body
 
--- is near the transmission
+preamble_bits_are : words_bits preamble ≡ preamble_bits 18
+unfolding preamble
+preamble_bits_are = refl
+
+length-preamble_bits : length (preamble_bits 18) ≡ 576
+length-preamble_bits = length-words_bits (replicate 18 filler)
+
+word_behind-is : (k : ℕ) (front rest : List Bool) → length front ≡ 576 → word_behind k (front ++ rest) ≡ word_at k rest
+word_behind-is k front rest l =
+    ap (take 32) (sym (drop-drop (32 * k) 576 (front ++ rest)) ∙ ap (drop (32 * k)) (drop_at front rest 576 l))
+
+air-parts : (us : List ℕ) → words_bits (preamble ++ us) ≡ preamble_bits 18 ++ words_bits us
+air-parts us = words_bits-append preamble us ∙ ap (λ (xs : List Bool). xs ++ words_bits us) preamble_bits_are
+
+-- a clean preamble and bits near further words are near the transmission of these words
 pub near_air-whole : (us : List ℕ) (heard : List Bool) → PreambleAndWords us heard → IsNearAir (words_bits (preamble ++ us)) heard
 near_air-whole us heard p =
     let lf : length (preamble_bits 18) ≡ 576 = length-preamble_bits in
