@@ -48,15 +48,10 @@ impl Counter {
         ensures equal { self.now.ready ≡ replicate result.1 result.0 ++ drop result.1 self.now.ready }
     {
         let n = self.ready.len();
-        let samples = self.ready.number();
-        let half = 1u64 << (n - 1);
-        let value = samples >= half;
-        let others = if value {
-            2 * half - 1 - samples
-        } else {
-            samples
-        };
-        (value, n + others.leading_zeros() - 64)
+        let first = self.ready.number() << (u64::BITS - n);
+        let value = first >= 1 << (u64::BITS - 1);
+        let others = if value { !first } else { first };
+        (value, others.leading_zeros().min(n))
     }
 
     /// Counts samples of the first run that is ready, up to its end or to the one that gives the last of the bits asked
