@@ -1,5 +1,5 @@
 -- Runs of equal bits in registers.
-use Rattle.std.proofs.Common.{◌≡◌, ◌≢◌, ℕ, zero, suc, ◌+◌, ◌-◌, ◌*◌, ◌/◌, ◌%◌, ◌^◌, ◌<◌, ◌≤◌, ◌==◌, nat_lt, Bool, true, false, List, [], ◌∷◌, ◌++◌, drop, get_or, length, replicate, refl, sym, ◌∙◌, ap, ap₂, subst, arith}
+use Rattle.std.proofs.Common.{◌≡◌, ◌≢◌, ℕ, zero, suc, ◌+◌, ◌-◌, ◌*◌, ◌/◌, ◌%◌, ◌^◌, ◌<◌, ◌≤◌, ◌==◌, nat_lt, Bool, true, false, List, [], ◌∷◌, ◌++◌, drop, get_or, length, replicate, min, refl, sym, ◌∙◌, ap, ap₂, subst, arith}
 use Rattle.std.proofs.Math.Nat.{div-eq_of_lt, mul-add-div_right, mod-eq_of_lt}
 use Rattle.std.proofs.Math.Pow.{pow_mono, pow_pos}
 use Rattle.std.proofs.lemmas.Bool.Decides.{nat_tests}
@@ -55,47 +55,44 @@ pow_below m n h = elim (nat_lt m n) as (λ b. nat_lt m n ≡ b → m < n) [
   | false ↦ λ e. (let le : n ≤ m = grind (arith, nat_tests, e) in absurd (omega (arith, pow_mono le, h)))
 ] refl
 
-doubled : (n : ℕ) → 0 < n → 2 ^ n ≡ 2 * 2 ^ (n - 1)
-doubled zero h = absurd (omega arith)
-doubled (suc n) h = let e : suc n - 1 ≡ n = omega arith in rw e (omega arith)
+-- so many of the n lowest bits of a number stand before its first one
+pub run_of_zeros : (n r w : ℕ) → r ≤ n → w < 2 ^ (n - r) → bits_of n w ≡ replicate r false ++ drop r (bits_of n w)
+run_of_zeros n r w le small =
+    let e : r + (n - r) ≡ n = omega (arith, le) in
+    let d : w / 2 ^ (n - r) ≡ 0 = div-eq_of_lt small in
+    subst (λ (k : ℕ). bits_of k w ≡ replicate r false ++ drop r (bits_of k w)) e (front r (n - r) w false (ap (bits_of r) d ∙ zeros r))
 
--- how many of the n lowest bits of a number below 2 ^ (n - 1) stand before its first one
-pub run_length : (n o : ℕ) → 0 < n → n ≤ 32 → o < 2 ^ (n - 1) → (m : ℕ) × (count_leading_zeros 64 o + m ≡ 64) × (m < n) × (o < 2 ^ m)
-run_length n o some few small =
-    let p : 2 ^ (n - 1) ≤ 2 ^ 64 = pow_mono {i = n - 1} {j = 64} (omega (arith, few)) in
-    let l = leading_length 64 o (omega (arith, small, p)) in
-    let d = doubled n some in
-    (l.0, l.1, pow_below l.0 n (omega (arith, l.3, small, d)), l.2)
-
--- the first bits of a number whose highest one isn't set
-pub run_of_zeros : (n w : ℕ) → 0 < n → n ≤ 32 → w < 2 ^ (n - 1) → (0 < n + count_leading_zeros 64 w - 64) × (bits_of n w ≡ replicate (n + count_leading_zeros 64 w - 64) false ++ drop (n + count_leading_zeros 64 w - 64) (bits_of n w))
-run_of_zeros n w some few small =
-    let l = run_length n w some few small in
-    let r : n + count_leading_zeros 64 w - 64 ≡ n - l.0 = omega (arith, l.1, l.2) in
-    let e : n - l.0 + l.0 ≡ n = omega (arith, l.2) in
-    let d : w / 2 ^ l.0 ≡ 0 = div-eq_of_lt l.3 in (
-      omega (arith, r, l.2),
-      rw r (subst (λ (k : ℕ). bits_of k w ≡ replicate (n - l.0) false ++ drop (n - l.0) (bits_of k w)) e (front (n - l.0) l.0 w false (ap (bits_of (n - l.0)) d ∙ zeros (n - l.0)))),
-    )
-
--- and of one whose highest is set, by its complement
-pub run_of_ones : (n w o : ℕ) → 0 < n → n ≤ 32 → o < 2 ^ (n - 1) → w + o + 1 ≡ 2 ^ n → (0 < n + count_leading_zeros 64 o - 64) × (bits_of n w ≡ replicate (n + count_leading_zeros 64 o - 64) true ++ drop (n + count_leading_zeros 64 o - 64) (bits_of n w))
-run_of_ones n w o some few small is =
-    let l = run_length n o some few small in
-    let r : n + count_leading_zeros 64 o - 64 ≡ n - l.0 = omega (arith, l.1, l.2) in
-    let e : n - l.0 + l.0 ≡ n = omega (arith, l.2) in
-    let p = pow_pos l.0 in
-    let q = pow_pos (n - l.0) in
-    let whole : 2 ^ n ≡ 2 ^ (n - l.0) * 2 ^ l.0 = ap (λ (k : ℕ). 2 ^ k) (sym e) ∙ pow-add 2 (n - l.0) l.0 in
-    let s : w ≡ (2 ^ (n - l.0) - 1) * 2 ^ l.0 + (2 ^ l.0 - 1 - o) = complement w o (2 ^ (n - l.0)) (2 ^ l.0) q l.3 (is ∙ whole) in
-    let d : w / 2 ^ l.0 ≡ 2 ^ (n - l.0) - 1 = ap (λ (k : ℕ). k / 2 ^ l.0) s ∙ (mul-add-div_right p (2 ^ (n - l.0) - 1) (2 ^ l.0 - 1 - o) ∙ (ap (λ (k : ℕ). 2 ^ (n - l.0) - 1 + k) (div-eq_of_lt (omega (arith, p))) ∙ omega arith)) in (
-      omega (arith, r, l.2),
-      rw r (subst (λ (k : ℕ). bits_of k w ≡ replicate (n - l.0) true ++ drop (n - l.0) (bits_of k w)) e (front (n - l.0) l.0 w true (all_set (n - l.0) (w / 2 ^ l.0) (omega (arith, d, q))))),
-    )
+-- and before the first zero, where so many of its complement do
+pub run_of_ones : (n r w o : ℕ) → r ≤ n → w + o + 1 ≡ 2 ^ n → o < 2 ^ (n - r) → bits_of n w ≡ replicate r true ++ drop r (bits_of n w)
+run_of_ones n r w o le is small =
+    let e : r + (n - r) ≡ n = omega (arith, le) in
+    let p = pow_pos (n - r) in
+    let q = pow_pos r in
+    let whole : 2 ^ n ≡ 2 ^ r * 2 ^ (n - r) = ap (λ (k : ℕ). 2 ^ k) (sym e) ∙ pow-add 2 r (n - r) in
+    let s : w ≡ (2 ^ r - 1) * 2 ^ (n - r) + (2 ^ (n - r) - 1 - o) = complement w o (2 ^ r) (2 ^ (n - r)) q small (is ∙ whole) in
+    let d : w / 2 ^ (n - r) ≡ 2 ^ r - 1 = ap (λ (k : ℕ). k / 2 ^ (n - r)) s ∙ (mul-add-div_right p (2 ^ r - 1) (2 ^ (n - r) - 1 - o) ∙ (ap (λ (k : ℕ). 2 ^ r - 1 + k) (div-eq_of_lt (omega (arith, p))) ∙ omega arith)) in
+    subst (λ (k : ℕ). bits_of k w ≡ replicate r true ++ drop r (bits_of k w)) e (front r (n - r) w true (all_set r (w / 2 ^ (n - r)) (omega (arith, d, q))))
   where
     complement : (w o a b : ℕ) → 0 < a → o < b → w + o + 1 ≡ a * b → w ≡ (a - 1) * b + (b - 1 - o)
     complement w o zero b h k e = absurd (omega arith)
     complement w o (suc a) b h k e = let m : suc a - 1 ≡ a = omega arith in rw m (omega (arith, e, k))
+
+-- a number of n bits that stand highest in a word of 64, of which the highest isn't set: so many of them stand before its first one
+high_run : (n o w r : ℕ) → 0 < n → n ≤ 32 → o * 2 ^ (64 - n) ≤ w → w < 2 ^ 63 → r ≡ min (count_leading_zeros 64 w) n → (0 < r) × (r ≤ n) × (o < 2 ^ (n - r))
+high_run n o w r some few high small is =
+    let l = leading_length 64 w (omega (arith, small)) in
+    let m = pow_below l.0 64 (omega (arith, l.3, small)) in
+    let le : r ≤ n = omega (arith, is) in
+    let top : 2 ^ l.0 ≤ 2 ^ (64 - r) = pow_mono {i = l.0} {j = 64 - r} (omega (arith, is, l.1)) in
+    let e : n - r + (64 - n) ≡ 64 - r = omega (arith, le, few) in
+    let split : 2 ^ (64 - r) ≡ 2 ^ (n - r) * 2 ^ (64 - n) = ap (λ (k : ℕ). 2 ^ k) (sym e) ∙ pow-add 2 (n - r) (64 - n) in
+    (omega (arith, is, l.1, m, some), le, below o (2 ^ (n - r)) (2 ^ (64 - n)) (omega (arith, high, l.2, top, split)))
+  where
+    below : (a b c : ℕ) → a * c < b * c → a < b
+    below a b c h = elim (nat_lt a b) as (λ t. nat_lt a b ≡ t → a < b) [
+      | true ↦ λ e. grind (arith, nat_tests, e)
+      | false ↦ λ e. (let le : b ≤ a = grind (arith, nat_tests, e) in absurd (omega (arith, mul-le b c a c le (omega arith), h)))
+    ] refl
 
 -- a shorter run is one too
 pub shorter_run : (n r : ℕ) (v : Bool) (xs ys : List Bool) → n ≤ r → xs ≡ replicate r v ++ ys → xs ≡ replicate n v ++ drop n xs
@@ -132,39 +129,37 @@ pub some_long : (xs : List Bool) → xs ≢ [] → 0 < length xs
 some_long [] h = absurd (h refl)
 some_long (x ∷ xs) h = omega arith
 
--- the half of the numbers of n bits
-pub half_is : (n : ℕ) → 0 < n → n ≤ 32 → (1 * 2 ^ (n - 1) % 18446744073709551616 ≡ 2 ^ (n - 1)) × (2 ^ n ≡ 2 * 2 ^ (n - 1))
-half_is n some few = (one_shl (n - 1) 64 (omega (arith, few)), doubled n some)
+-- the bits of a number as the highest of a word of 64
+highest : (n w first : ℕ) → 0 < n → n ≤ 32 → w < 2 ^ n → first ≡ w * 2 ^ (64 - n) % 18446744073709551616 → (first ≡ w * 2 ^ (64 - n)) × (2 ^ n * 2 ^ (64 - n) ≡ 18446744073709551616)
+highest n w first some few small is =
+    let e : n + (64 - n) ≡ 64 = omega (arith, few) in
+    let whole : 2 ^ n * 2 ^ (64 - n) ≡ 2 ^ 64 = sym (pow-add 2 n (64 - n)) ∙ ap (λ (k : ℕ). 2 ^ k) e in
+    let p = pow_pos (64 - n) in
+    let lt : (w + 1) * 2 ^ (64 - n) ≤ 2 ^ n * 2 ^ (64 - n) = mul-le (w + 1) (2 ^ (64 - n)) (2 ^ n) (2 ^ (64 - n)) (omega (arith, small)) (omega arith) in
+    (is ∙ mod-eq_of_lt (omega (arith, lt, whole, p)), omega (arith, whole))
 
--- the first run of what a register holds
-abbrev pub FirstRun : ℕ → ℕ → Bool → List Bool → Type 0
-FirstRun n others value ready =
-    (64 ≤ n + count_leading_zeros 64 others) × (0 < n + count_leading_zeros 64 others - 64)
-    × (ready ≡ replicate (n + count_leading_zeros 64 others - 64) value ++ drop (n + count_leading_zeros 64 others - 64) ready)
+-- so many of the samples that a register holds, at their front, have this value
+abbrev pub FirstRun : ℕ → Bool → List Bool → Type 0
+FirstRun run value ready = (0 < run) × (ready ≡ replicate run value ++ drop run ready)
 
-many : (n o : ℕ) → 0 < n → n ≤ 32 → o < 2 ^ (n - 1) → 64 ≤ n + count_leading_zeros 64 o
-many n o some few small = let l = run_length n o some few small in omega (arith, l.1, l.2)
-
-pub first_zeros : (n number others : ℕ) (value : Bool) (ready : List Bool) → 0 < n → n ≤ 32 → n ≡ length ready → bits_of (length ready) number ≡ ready → others ≡ number → value ≡ false → number < 1 * 2 ^ (n - 1) % 18446744073709551616 → FirstRun n others value ready
-first_zeros n number others value ready some few e is o v small =
-    let h = half_is n some few in
-    let lt : others < 2 ^ (n - 1) = omega (arith, small, h.0, o) in
-    let r = run_of_zeros n others some few lt in
-    let same : bits_of n others ≡ ready = ap₂ bits_of e o ∙ is in
-    rw v (many n others some few lt, r.0, subst (λ (xs : List Bool). xs ≡ replicate (n + count_leading_zeros 64 others - 64) false ++ drop (n + count_leading_zeros 64 others - 64) xs) same r.1)
-
-pub first_ones : (n number others : ℕ) (value : Bool) (ready : List Bool) → 0 < n → n ≤ 32 → n ≡ length ready → bits_of (length ready) number ≡ ready → number < 2 ^ length ready → others ≡ 2 * (1 * 2 ^ (n - 1) % 18446744073709551616) - 1 - number → value ≡ true
-    → 1 * 2 ^ (n - 1) % 18446744073709551616 ≤ number → FirstRun n others value ready
-first_ones n number others value ready some few e is top o v large =
-    let h = half_is n some few in
+pub first_zeros : (n number first others run : ℕ) (value : Bool) (ready : List Bool) → 0 < n → n ≤ 32 → n ≡ length ready → bits_of (length ready) number ≡ ready → number < 2 ^ length ready → first ≡ number * 2 ^ (64 - n) % 18446744073709551616
+    → others ≡ first → value ≡ false → first < 9223372036854775808 → run ≡ min (count_leading_zeros 64 others) n → FirstRun run value ready
+first_zeros n number first others run value ready some few e is top f o v small r =
     let below : number < 2 ^ n = subst (λ (k : ℕ). number < 2 ^ k) (sym e) top in
-    let lt : others < 2 ^ (n - 1) = omega (arith, large, h.0, h.1, o, below) in
-    let r = run_of_ones n number others some few lt (omega (arith, large, h.0, h.1, o, below)) in
+    let h = highest n number first some few below f in
+    let l = high_run n number others run some few (omega (arith, o, h.0)) (omega (arith, o, small)) r in
     let same : bits_of n number ≡ ready = ap (λ (k : ℕ). bits_of k number) e ∙ is in
-    rw v (many n others some few lt, r.0, subst (λ (xs : List Bool). xs ≡ replicate (n + count_leading_zeros 64 others - 64) true ++ drop (n + count_leading_zeros 64 others - 64) xs) same r.1)
+    rw v (l.0, subst (λ (xs : List Bool). xs ≡ replicate run false ++ drop run xs) same (run_of_zeros n run number l.1 l.2))
 
-pub number_fits : (n number len : ℕ) → 0 < n → n ≤ 32 → n ≡ len → number < 2 ^ len → number ≤ 2 * (1 * 2 ^ (n - 1) % 18446744073709551616) - 1
-number_fits n number len some few e top =
-    let h = half_is n some few in
+pub first_ones : (n number first others run : ℕ) (value : Bool) (ready : List Bool) → 0 < n → n ≤ 32 → n ≡ length ready → bits_of (length ready) number ≡ ready → number < 2 ^ length ready → first ≡ number * 2 ^ (64 - n) % 18446744073709551616
+    → others ≡ 18446744073709551615 - first → value ≡ true → 9223372036854775808 ≤ first → run ≡ min (count_leading_zeros 64 others) n → FirstRun run value ready
+first_ones n number first others run value ready some few e is top f o v large r =
     let below : number < 2 ^ n = subst (λ (k : ℕ). number < 2 ^ k) (sym e) top in
-    omega (arith, h.0, h.1, below)
+    let h = highest n number first some few below f in
+    let c : ℕ = 2 ^ n - 1 - number in
+    let whole : number + c + 1 ≡ 2 ^ n = omega (arith, below) in
+    let p = pow_pos (64 - n) in
+    let parts : number * 2 ^ (64 - n) + c * 2 ^ (64 - n) + 2 ^ (64 - n) ≡ 18446744073709551616 = omega (arith, h.1, ap (λ (k : ℕ). k * 2 ^ (64 - n)) whole) in
+    let l = high_run n c others run some few (omega (arith, o, h.0, parts, p)) (omega (arith, o, large, h.0, parts, p)) r in
+    let same : bits_of n number ≡ ready = ap (λ (k : ℕ). bits_of k number) e ∙ is in
+    rw v (l.0, subst (λ (xs : List Bool). xs ≡ replicate run true ++ drop run xs) same (run_of_ones n run number c l.1 whole l.2))

@@ -13,19 +13,19 @@ pub(crate) struct Counter {
     ready: Piece,
     /// The sample that was counted last.
     last: bool,
-    /// How many samples, modulo 8, came since the last edge.
-    count: u32,
+    /// Four more than the samples since the last edge, modulo 8: a bit is given where this comes to 8.
+    toward: u32,
 }
 
 impl Model for Counter {
     ghost use Rattle.sampler.specs.Stacked.{Counted};
-    ghost use Rattle.std.specs.Prelude.{◌<◌};
+    ghost use Rattle.std.specs.Prelude.{◌<◌, ◌+◌, ◌%◌};
 
     ghost Value = { Counted };
 
-    ghost view = { λ c. record { ready = c.ready; last = c.last; count = c.count } };
+    ghost view = { λ c. record { ready = c.ready; last = c.last; count = (c.toward + 4) % 8 } };
 
-    ghost invariant = { λ c. c.count < 8 };
+    ghost invariant = { λ c. c.toward < 8 };
 }
 
 impl Counter {
@@ -36,7 +36,7 @@ impl Counter {
         Counter {
             ready: Piece::of(0, 0),
             last: false,
-            count: 0,
+            toward: 4,
         }
     }
 
@@ -48,15 +48,10 @@ impl Counter {
         ensures equal { self.now.ready ≡ replicate result.1 result.0 ++ drop result.1 self.now.ready }
     {
         let n = self.ready.len();
-        let samples = self.ready.number();
-        let half = 1u64 << (n - 1);
-        let value = samples >= half;
-        let others = if value {
-            2 * half - 1 - samples
-        } else {
-            samples
-        };
-        (value, n + others.leading_zeros() - 64)
+        let first = self.ready.number() << (u64::BITS - n);
+        let value = first >= 1 << (u64::BITS - 1);
+        let others = if value { !first } else { first };
+        (value, others.leading_zeros().min(n))
     }
 
     /// Counts samples of the first run that is ready, up to its end or to the one that gives the last of the bits asked
@@ -73,14 +68,13 @@ impl Counter {
         let (value, run) = self.run();
         if value != self.last {
             self.last = value;
-            self.count = 0;
+            self.toward = 4;
         }
-        let given = (self.count + 4) / 8;
-        let n = run.min(8 * (given + most) - 4 - self.count);
+        let n = run.min(8 * most - self.toward);
         self.ready.skip(n);
-        let count = self.count + n;
-        bits.repeat(value, (count + 4) / 8 - given);
-        self.count = count % 8;
+        let toward = self.toward + n;
+        bits.repeat(value, toward / 8);
+        self.toward = toward % 8;
     }
 
     /// The next bits of the samples that are ready, at most so many. Where it gives none, it counted all of them.

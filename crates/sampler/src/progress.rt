@@ -96,6 +96,7 @@ impl Progress {
     }
 
     /// Reads some samples, where none is ready.
+    #[inline(always)]
     fn read<B: BitSource>(&mut self, source: &mut B) -> Result<bool, Failed>
         requires none { self.old.counter.ready ≡ [] }
         requires some { 0 < self.old.limit }
