@@ -186,7 +186,7 @@ fn airs(alloc: Global, size: usize) -> Result<Vec<u8>, AllocError> {
 
 /// What the connections leave: the status, the lines, and the file of the transmissions.
 #[derive(Drop)]
-pub(crate) struct Served {
+pub(crate) struct ServingLeft {
     status: Status,
     lines: Vec<u8>,
     air: Option<Vec<u8>>,
@@ -231,7 +231,7 @@ pub(crate) fn served(
     protocol: Protocol,
     room: usize,
     case: &Case,
-) -> Result<Served, Fail> {
+) -> Result<ServingLeft, Fail> {
     let mut station = station(alloc, TWO)?;
     let heard = owned(alloc, case.heard)?;
     let mut wire = MemoryWire::new(alloc, &heard, 26, room, case.wire)?;
@@ -245,7 +245,7 @@ pub(crate) fn served(
         &mut shelf,
         &mut out,
     );
-    Ok(Served {
+    Ok(ServingLeft {
         status,
         lines: Vec::from_slice(alloc, out.bytes())?,
         air: file_in(alloc, &shelf)?,

@@ -116,7 +116,7 @@ pub(crate) fn held(
 /// Whether each time that something was heard so many bytes had been said as this table says, the last first.
 pub(crate) fn are_owed(turns: &[(u64, u64)], table: &[(u64, u64)]) -> bool {
     for (heard, said) in turns {
-        if owed(table, *heard) != Some(*said) {
+        if said_by(table, *heard) != Some(*said) {
             return false;
         }
     }
@@ -124,7 +124,7 @@ pub(crate) fn are_owed(turns: &[(u64, u64)], table: &[(u64, u64)]) -> bool {
 }
 
 /// How many bytes are said once so many were heard.
-fn owed(table: &[(u64, u64)], heard: u64) -> Option<u64> {
+fn said_by(table: &[(u64, u64)], heard: u64) -> Option<u64> {
     for (from, said) in table {
         if *from <= heard {
             return Some(*said);

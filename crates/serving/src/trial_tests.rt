@@ -122,7 +122,7 @@ fn bits_left<N: BitSource>(noise: &mut N) -> Option<u32> {
 
 /// What a trial leaves: its status, what is printed, and how many bits of the noise are left.
 #[derive(Drop)]
-struct Tried {
+struct TrialLeft {
     status: Status,
     printed: Vec<u8>,
     left: Option<u32>,
@@ -146,14 +146,14 @@ fn noise_of(alloc: Global, size: usize, failing: &[u64]) -> Result<ByteBits<Memo
 }
 
 /// Tries the session of an input through a noise of so many bytes, whose calls fail.
-fn tried(alloc: Global, input: &[u8], noise: usize, failing: &[u64]) -> Result<Tried, Fail> {
+fn tried(alloc: Global, input: &[u8], noise: usize, failing: &[u64]) -> Result<TrialLeft, Fail> {
     let mut station = station(alloc, TWO)?;
     let mut group = receiver(alloc)?;
     let mut noise = noise_of(alloc, noise, failing)?;
     let mut input = MemorySource::new(alloc, input, 7, &[])?;
     let mut out = MemorySink::new(alloc, 100, &[])?;
     let status = station.trial(&mut input, &mut noise, &mut group, &mut out);
-    Ok(Tried {
+    Ok(TrialLeft {
         status,
         printed: Vec::from_slice(alloc, out.bytes())?,
         left: bits_left(&mut noise),
