@@ -21,7 +21,7 @@ use Rattle.receiver.proofs.Stretches.{after_loss-append, after_sync-append, leng
 
 -- ---- the words of a lock
 
-option_cases : {A : Type 0} (o : Option A) → (o ≡ None) ⊎ ((x : A) × (o ≡ Some x))
+pub option_cases : {A : Type 0} (o : Option A) → (o ≡ None) ⊎ ((x : A) × (o ≡ Some x))
 option_cases None = inl refl
 option_cases (Some x) = inr (x, refl)
 
@@ -39,7 +39,7 @@ held_front k (w ∷ ws) vs h = goes (is_sync_place k) (is_sync w) (loss_from (su
     goes true true None e f = let r = f refl in record { rest = r.rest; is = ap (λ (zs : List ℕ). w ∷ zs) r.is }
     goes true true (Some n) e f = absurd (let q : Some (suc n) ≡ None = e in cc)
 
-held_words-front : (bits more : List Bool) → after_loss bits ≡ None → IsFront (held_words bits) (held_words (bits ++ more))
+pub held_words-front : (bits more : List Bool) → after_loss bits ≡ None → IsFront (held_words bits) (held_words (bits ++ more))
 held_words-front bits more none =
     let l = not_lost bits none in
     let w = words_of-append bits more in
@@ -89,7 +89,7 @@ stretches-grow f g (suc n) bits more le = elim (option_cases (after_sync bits)) 
 
 -- ---- pages and entries of a stretch
 
-slots_of-grow : Grows stretch_slots
+pub slots_of-grow : Grows stretch_slots
 slots_of-grow = grows_by_one stretch_slots (λ ws w. record { rest = _; is = slots_from-push 0 ws w })
 
 stretch_pages-grow : (listens : ℕ → Bool) → Grows (stretch_pages listens)
