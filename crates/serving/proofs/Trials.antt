@@ -49,7 +49,7 @@ air_of (page ∷ accepted) =
 -- and is sent once or twice
 pub sent_of : (times : Times) (accepted : List Page) → (sent : List Bool) × IsSent times accepted sent
 sent_of once accepted = air_of accepted
-sent_of twice accepted = let air = air_of accepted in (air.0 ++ air.0, air.0, air.1, refl)
+sent_of twice accepted = let air = air_of accepted in (air.0 ++ air.0, (air.0, air.1, refl))
 
 -- of no page nothing is sent
 none_sent : (times : Times) (accepted : List Page) → accepted ≡ [] → IsSent times accepted []
