@@ -7,7 +7,7 @@ use Rattle.station.specs.declared.outcomes.Outcome.{Outcome}
 use Rattle.station.specs.declared.outcomes.Outcome.TheVariants.{Ended, Misread, Refused}
 use Rattle.endings.specs.declared.statuses.Status.{Status}
 use Rattle.endings.specs.declared.statuses.Status.TheVariants.{BadPages, Done, Memory, OutFault, Settings}
-use Rattle.station.specs.Commands.{Command, One, Play, PlayLine, Send, Show, Station, Trial, WriteLine}
+use Rattle.station.specs.Commands.{Command, One, Play, PlayLine, Send, Show, Station, Trial, Twice, WriteLine}
 use Rattle.station.specs.OneRun.{FitRun, OneRun}
 use Rattle.station.specs.Outcomes.{Tells, TellsMisread, TellsOutcome, TellsRefusal, line_about, pages_line, settings_line}
 use Rattle.station.specs.Rows.{Acts, HasEndedSo, Objects}
@@ -15,6 +15,7 @@ use Rattle.endings.specs.Statuses.{status_line}
 use Rattle.station.specs.OneOutcome.{LeftAlike}
 use Rattle.station.proofs.LeftAlike.{kept_alike}
 use Rattle.endings.specs.Wrote.{FitFor}
+use Rattle.serving.specs.Sent.{once, twice}
 use Rattle.station.proofs.OneCommands.{one_command}
 use Rattle.station.proofs.OneOfOne.{one_one}
 use Rattle.station.proofs.OneOutcomes.{one_play, one_play_line, one_show}
@@ -82,7 +83,8 @@ acts_alike (Some (WriteLine air line seed)) old new other outcome another fit h 
 acts_alike (Some (Show air)) old new other outcome another fit h k some some2 =
     came_alike _ _ outcome another (λ s t a b n m. one_show air old new other s t fit.0 fit.1 a b) h k some some2
 acts_alike (Some (Station address settings air count)) old new other outcome another fit h k some some2 = one_station address settings air count old new other outcome another fit h k some some2
-acts_alike (Some (Trial settings noise receivers)) old new other outcome another fit h k some some2 = one_trial settings noise receivers old new other outcome another fit h k some some2
+acts_alike (Some (Trial settings noise receivers)) old new other outcome another fit h k some some2 = one_trial once settings noise receivers old new other outcome another fit h k some some2
+acts_alike (Some (Twice settings noise receivers)) old new other outcome another fit h k some some2 = one_trial twice settings noise receivers old new other outcome another fit h k some some2
 acts_alike (Some (Send address pages)) old new other outcome another fit h k some some2 = one_send address pages old new other outcome another fit h k some some2
 
 -- a run that had memory came to something else

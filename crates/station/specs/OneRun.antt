@@ -4,7 +4,7 @@ use Rattle.station.specs.declared.outcomes.Outcome.{Outcome}
 use Rattle.sampler.specs.Runs.{sampled_bits}
 use Rattle.endings.specs.declared.statuses.Status.{Status}
 use Rattle.endings.specs.declared.statuses.Status.TheVariants.{Memory}
-use Rattle.station.specs.Commands.{AreCommand, Command, One, Play, PlayLine, Send, Show, Station, Trial, WriteLine}
+use Rattle.station.specs.Commands.{AreCommand, Command, One, Play, PlayLine, Send, Show, Station, Trial, Twice, WriteLine}
 use Rattle.station.specs.OneOutcome.{FitFile, FitOne, FitWriteLine, LeftAlike, bits_listened}
 use Rattle.station.specs.OneSend.{FitSend}
 use Rattle.station.specs.OneStation.{FitStation}
@@ -14,6 +14,7 @@ use Rattle.listening.specs.PageLines.{play_lines}
 use Rattle.station.specs.Rows.{Acts, Objects, Outside, Runs, around}
 use Rattle.listening.specs.Table.{table_of}
 use Rattle.endings.specs.Wrote.{FitFor}
+use Rattle.serving.specs.Sent.{once, twice}
 
 -- the objects are fit for a command
 abbrev pub FitRun : Option Command → Objects → Type 0
@@ -24,7 +25,8 @@ FitRun (Some (PlayLine line receivers)) old = FitFile line old.shelf × FitFor o
 FitRun (Some (WriteLine air line seed)) old = FitWriteLine air line old.shelf
 FitRun (Some (Show air)) old = FitFile air old.shelf × FitFor old.streams.out (table_of (bits_listened air old.shelf))
 FitRun (Some (Station address settings air count)) old = FitStation settings air count (around old)
-FitRun (Some (Trial settings noise receivers)) old = FitTrial settings noise receivers old.shelf old.streams
+FitRun (Some (Trial settings noise receivers)) old = FitTrial once settings noise receivers old.shelf old.streams
+FitRun (Some (Twice settings noise receivers)) old = FitTrial twice settings noise receivers old.shelf old.streams
 FitRun (Some (Send address pages)) old = FitSend pages (around old)
 
 -- The output of errors is steady, and has room for the line about whatever the command may come to.
