@@ -13,6 +13,7 @@
 //! - `stations`: runs of `station` that are to serve two connections.
 //! - `failing_calls`: runs in which each call of an object fails in turn, and `stands`, the tables of what they leave.
 //! - `trials`: runs of `trial`.
+//! - `repeated`: runs of `twice`.
 //! - `clients`: runs of `send`.
 //! - `refusals`: words that are no command, files that are not there, and settings files that are refused.
 //! - `long_files`: the longest files that are played, and longer ones.
@@ -44,6 +45,8 @@ mod receivers;
 mod refusals;
 #[cfg(test)]
 mod refused;
+#[cfg(test)]
+mod repeated;
 #[cfg(test)]
 mod runs;
 #[cfg(test)]
