@@ -16,6 +16,7 @@ const COPY: usize = 35;
 
 /// The places of the address word and of the first message word of a copy.
 const ADDRESS: usize = 19;
+
 const MESSAGE: usize = 20;
 
 /// What a row shows; the command; the words of the noise with three wrong bits; what is printed.
