@@ -94,14 +94,7 @@ pub(crate) fn run_twice<F: Shelf, I: Source, O: Sink>(
         return Outcome::Ended(Status::Memory);
     };
     let mut hearing = SentTwice { recording, group };
-    Outcome::Ended(try_file(
-        &mut station,
-        noise,
-        &mut hearing,
-        shelf,
-        input,
-        out,
-    ))
+    Outcome::Ended(try_file(&mut station, noise, &mut hearing, shelf, input, out))
 }
 
 /// Tries the session of the input, with the bits of a file as noise.
