@@ -55,6 +55,8 @@ FILES = {
     "two.noise": noise(TWO + [0x00000003] * (WORDS - len(TWO))),
     # three wrong bits in the first message word, after the sync word and the address word
     "three.noise": noise([0, 0, 0x00700000]),
+    # three in the first address word of one copy, and in the first message word of a second copy, which has its own preamble
+    "copies.noise": noise([0, 0x00700000] + [0] * (WORDS - 2) + [0] * (PREAMBLE // 4) + [0, 0, 0x00700000]),
 }
 
 

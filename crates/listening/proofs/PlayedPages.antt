@@ -8,41 +8,38 @@ use Rattle.std.proofs.lemmas.Option.{get_or_from_slice_get}
 use Rattle.std.specs.List.{range_with_len, slice_get}
 use Rattle.page_text.specs.Page.{Page}
 use Rattle.page_text.specs.Texts.{text_of}
-use Rattle.receiver.specs.Heard.{HeardPage, heard, with_text}
-use Rattle.receiver.specs.Receivers.{has_in, numbers_with}
+use Rattle.receiver.specs.Heard.{HeardPage, with_text}
+use Rattle.receiver.specs.Receivers.{numbers_with}
 use Rattle.receiver.specs.Shown.{shown, shown_page}
-use Rattle.receiver.specs.Listeners.{Listener, ready_answer, is_one_of, ready_pages}
+use Rattle.receiver.specs.Listeners.{Listener, ready_answer, ready_pages}
 use Rattle.receiver.specs.Stretches.{first_stretches, stretches}
 use Rattle.receiver.specs.declared.ready.Ready.{Ready}
 use Rattle.wires.specs.Written.{Written, Puts}
 use Rattle.wires.proofs.Written.{Puts-nothing, Puts-turn, Puts-turn-fails}
 use Rattle.listening.specs.Listening.{Prints}
-use Rattle.listening.specs.PageLines.{group_lines, lines_for, lines_heard, shown_line, shown_lines}
+use Rattle.listening.specs.PageLines.{group_lines, lines_for, lines_of_heard, shown_line, shown_lines}
 
 -- no bits have no page
 pub group_lines-none : (group : Listener) → group_lines group [] ≡ []
 unfolding stretches first_stretches
 group_lines-none group = refl
 
-lines_heard-more : (listens : ℕ → Bool) (has : ℕ → ℕ → Bool) (bits next : List Bool) (more : List HeardPage)
-    → heard listens (bits ++ next) ≡ heard listens bits ++ more
-    → lines_heard listens has (bits ++ next) ≡ lines_heard listens has bits ++ shown_lines (shown has (map with_text more))
-lines_heard-more listens has bits next more e =
-    ap (λ (pages : List HeardPage). shown_lines (shown has (map with_text pages))) e
-    ∙ (ap (λ (pages : List Page). shown_lines (shown has pages)) (map-append with_text (heard listens bits) more)
-    ∙ (ap shown_lines (flat_map-append (shown_page has) (map with_text (heard listens bits)) (map with_text more))
-    ∙ flat_map-append shown_line (shown has (map with_text (heard listens bits))) (shown has (map with_text more))))
+pub lines_of_heard-append : (has : ℕ → ℕ → Bool) (pages more : List HeardPage) → lines_of_heard has (pages ++ more) ≡ lines_of_heard has pages ++ lines_of_heard has more
+lines_of_heard-append has pages more =
+    ap (λ (ps : List Page). shown_lines (shown has ps)) (map-append with_text pages more)
+    ∙ (ap shown_lines (flat_map-append (shown_page has) (map with_text pages) (map with_text more))
+    ∙ flat_map-append shown_line (shown has (map with_text pages)) (shown has (map with_text more)))
 
 -- a piece that completes no page
-pub prints_no_page : {E : Type 0} (group : Listener) (bits next : List Bool) (ready : Option HeardPage) (answer : Option Ready) (o : Written ℕ)
+pub prints_no_page : {E : Type 0} (has : ℕ → ℕ → Bool) (hears : List Bool → List HeardPage) (bits next : List Bool) (ready : Option HeardPage) (answer : Option Ready) (o : Written ℕ)
     → answer ≡ None → answer ≡ ready_answer ready
-    → heard (is_one_of group.capcodes) (bits ++ next) ≡ heard (is_one_of group.capcodes) bits ++ ready_pages ready → Prints {E = E} (group_lines group) bits next o o (Ok (tt {0}))
-prints_no_page {E} group bits next None answer o none is e = record {
+    → hears (bits ++ next) ≡ hears bits ++ ready_pages ready → Prints {E = E} (λ heard. lines_of_heard has (hears heard)) bits next o o (Ok (tt {0}))
+prints_no_page {E} has hears bits next None answer o none is e = record {
   piece = [];
-  more = lines_heard-more (is_one_of group.capcodes) (has_in group.holders) bits next [] e;
+  more = ap (lines_of_heard has) e ∙ lines_of_heard-append has (hears bits) [];
   put = Puts-nothing {E = E} o (tt {0});
 }
-prints_no_page group bits next (Some page) answer o none is e = absurd (some_none (sym is ∙ none))
+prints_no_page has hears bits next (Some page) answer o none is e = absurd (some_none (sym is ∙ none))
   where
     some_none : {X : Type 0} {x : X} → Some x ≡ None → ⊥
     some_none p = cc
@@ -57,27 +54,27 @@ lines-for page [] = refl
 lines-for page (number ∷ numbers) = ap (λ (rest : List ℕ). shown_line (number, page) ++ rest) (lines-for page numbers)
 
 -- a piece that completes a page
-pub prints_page : {T E : Type 0} (group : Listener) (bits next : List Bool) (ready : Option HeardPage) (answer : Option Ready) (page : Ready) (said : List ℕ) (o1 o2 : Written ℕ)
+pub prints_page : {T E : Type 0} (has : ℕ → ℕ → Bool) (hears : List Bool → List HeardPage) (bits next : List Bool) (ready : Option HeardPage) (answer : Option Ready) (page : Ready) (said : List ℕ) (o1 o2 : Written ℕ)
     (r : Result T E) → answer ≡ Some page → answer ≡ ready_answer ready
-    → heard (is_one_of group.capcodes) (bits ++ next) ≡ heard (is_one_of group.capcodes) bits ++ ready_pages ready
+    → hears (bits ++ next) ≡ hears bits ++ ready_pages ready
     → IfSome ready (λ p. said ≡ text_of p.function p.groups)
-    → Puts o1 o2 (lines_for page.capcode page.function said (numbers_with (has_in group.holders) page.capcode)) r
-    → Prints (group_lines group) bits next o1 o2 r
-prints_page group bits next None answer page said o1 o2 r some is e text put = absurd (some_none (sym some ∙ is))
+    → Puts o1 o2 (lines_for page.capcode page.function said (numbers_with has page.capcode)) r
+    → Prints (λ heard. lines_of_heard has (hears heard)) bits next o1 o2 r
+prints_page has hears bits next None answer page said o1 o2 r some is e text put = absurd (some_none (sym some ∙ is))
   where
     some_none : {X : Type 0} {x : X} → Some x ≡ None → ⊥
     some_none p = cc
-prints_page group bits next (Some p) answer page said o1 o2 r some is e text put =
+prints_page has hears bits next (Some p) answer page said o1 o2 r some is e text put =
     let same : page ≡ record { capcode = p.capcode; function = p.function } = ap (λ (a : Option Ready). ready_of a page) (sym some ∙ is) in
-    let numbers = numbers_with (has_in group.holders) p.capcode in
+    let numbers = numbers_with has p.capcode in
     record {
       piece = lines_for p.capcode p.function (text_of p.function p.groups) numbers;
       more =
-          lines_heard-more (is_one_of group.capcodes) (has_in group.holders) bits next (p ∷ []) e
-          ∙ ap (λ (rest : List ℕ). group_lines group bits ++ rest)
-          (ap shown_lines (append-nil (shown_page (has_in group.holders) (with_text p))) ∙ lines-for (with_text p) numbers);
+          ap (lines_of_heard has) e ∙ lines_of_heard-append has (hears bits) (p ∷ [])
+          ∙ ap (λ (rest : List ℕ). lines_of_heard has (hears bits) ++ rest)
+          (ap shown_lines (append-nil (shown_page has (with_text p))) ∙ lines-for (with_text p) numbers);
       put = subst (λ (piece : List ℕ). Puts o1 o2 piece r)
-          (ap (λ (a : Ready). lines_for a.capcode a.function said (numbers_with (has_in group.holders) a.capcode)) same
+          (ap (λ (a : Ready). lines_for a.capcode a.function said (numbers_with has a.capcode)) same
           ∙ ap (λ (t : List ℕ). lines_for p.capcode p.function t numbers) text) put;
     }
 

@@ -4,3 +4,4 @@ pub mod Listening
 pub mod Noise
 pub mod PageLines
 pub mod Table
+pub mod TwinLines

@@ -1,7 +1,10 @@
 //! The commands `play` and `show`: what is heard in bits, as pages and as a table.
 
-ghost use Rattle.std.specs.Prelude.{◌≡◌, ◌≤◌, ◌++◌, [], IsSome, length};
+ghost use Rattle.std.specs.Prelude.{◌≡◌, ◌≤◌, ◌++◌, ℕ, [], IfSome, IsSome, List, Option, length, take};
+ghost use Rattle.std.specs.List.{slice_get};
 ghost use Rattle.page_text.specs.Line.{line_of};
+ghost use Rattle.page_text.specs.Texts.{text_of};
+ghost use Rattle.receiver.specs.Heard.{HeardPage};
 ghost use Rattle.receiver.specs.Listeners.{StandsFor};
 ghost use Rattle.receiver.specs.Receivers.{has_in, numbers_with};
 ghost use Rattle.listening.specs.Listening.{HasListened, OutWell};
@@ -11,6 +14,7 @@ ghost use Rattle.listening.specs.Table.{table_of};
 
 use crate::listening::{Listener, listen};
 use crate::table::Table;
+use codeword::Capcode;
 use endings::statuses::Status;
 use page_text::{LONGEST_READ, line};
 use receiver::{Group, MOST_RECEIVERS, Ready};
@@ -19,6 +23,40 @@ use wires::piece::Piece;
 use wires::sink::Sink;
 use wires::source::BitSource;
 use wires::steps::{Steps, Work};
+
+/// Receivers with numbers, of which the last bit may have completed a page.
+pub trait Showing {
+    /// This page.
+    ghost completed: { Self → Option HeardPage };
+
+    /// Each capcode with the set of its receivers' numbers.
+    ghost holders: { Self → List (ℕ × ℕ) };
+
+    /// Writes the text of the page to the front of `into`, which has at least `LONGEST_READ` bytes, and answers its length.
+    fn text_of(&self, into: &mut [u8]) -> usize
+        requires ready { IsSome (completed self.now) }
+        requires room { LONGEST_READ ≤ length into.old }
+        ensures text { IfSome (completed self.now) (λ page. take result into.new ≡ text_of page.function page.groups) }
+        ensures few { result ≤ LONGEST_READ };
+
+    /// The number of the receiver that comes after so many among those that have this capcode. None exactly where there are no more.
+    fn holder_of(&self, capcode: Capcode, k: u32) -> Option<u32>
+        ensures { result ≡ slice_get (numbers_with (has_in (holders self.now)) capcode) k };
+}
+
+impl Showing for Group {
+    ghost completed = { λ g. g.ready };
+
+    ghost holders = { λ g. g.holders };
+
+    fn text_of(&self, into: &mut [u8]) -> usize {
+        self.text(into)
+    }
+
+    fn holder_of(&self, capcode: Capcode, k: u32) -> Option<u32> {
+        self.holder(capcode, k)
+    }
+}
 
 impl Listener for Group {
     ghost printed = { λ g. group_lines g };
@@ -37,22 +75,31 @@ impl Listener for Group {
 
 /// Puts the lines of the page that the group has complete. Its text lies here, and not in `hear`, which is entered for every piece.
 #[inline(never)]
-fn show_ready<O: Sink>(group: &Group, page: &Ready, out: &mut O) -> Result<(), Failed>
-    requires { IsSome group.now.ready }
-    ensures { ShowsReady group.now page.now (O.state out.old) (O.state out.new) result }
+pub(crate) fn show_ready<G: Showing, O: Sink>(
+    group: &G,
+    page: &Ready,
+    out: &mut O,
+) -> Result<(), Failed>
+    requires { IsSome (G.completed group.now) }
+    ensures { ShowsReady (G.completed group.now) (G.holders group.now) page.now (O.state out.old) (O.state out.new) result }
 {
     let mut text = [0; LONGEST_READ];
-    let length = group.text(&mut text);
+    let length = group.text_of(&mut text);
     show_page(group, page, &text[..length], out)
 }
 
 /// Puts the line of a page for each receiver of the group that has its capcode.
-fn show_page<O: Sink>(group: &Group, page: &Ready, text: &[u8], out: &mut O) -> Result<(), Failed>
+fn show_page<G: Showing, O: Sink>(
+    group: &G,
+    page: &Ready,
+    text: &[u8],
+    out: &mut O,
+) -> Result<(), Failed>
     requires { length text.now ≤ LONGEST_READ }
-    ensures { Puts (O.state out.old) (O.state out.new) (lines_for page.now.capcode page.now.function text.now (numbers_with (has_in group.now.holders) page.now.capcode)) result }
+    ensures { Puts (O.state out.old) (O.state out.new) (lines_for page.now.capcode page.now.function text.now (numbers_with (has_in (G.holders group.now)) page.now.capcode)) result }
 {
     for k in 0..MOST_RECEIVERS {
-        let Some(number) = group.holder(page.capcode, k) else {
+        let Some(number) = group.holder_of(page.capcode, k) else {
             return Ok(());
         };
         if let Err(Failed) = show_line(number, page, text, out) {

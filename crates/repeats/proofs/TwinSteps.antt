@@ -153,7 +153,7 @@ says_first : (v w : Option ℕ) → says (first_there v w) ≡ first_kind (says 
 says_first None w = refl
 says_first (Some x) w = refl
 
-twin_push : (held ss : List ℕ) (w : ℕ) → map says (twin held (ss ++ w ∷ [])) ≡ map says (twin held ss) ++ twin_kind (slice_get held (length ss)) w ∷ []
+pub twin_push : (held ss : List ℕ) (w : ℕ) → map says (twin held (ss ++ w ∷ [])) ≡ map says (twin held ss) ++ twin_kind (slice_get held (length ss)) w ∷ []
 unfolding twin
 twin_push [] [] w = ap (λ (k : Option WordKind). k ∷ []) (says_kind w)
 twin_push [] (s ∷ ss) w = ap (λ (ks : List (Option WordKind)). says (fix_of s) ∷ ks) (twin_push [] ss w)

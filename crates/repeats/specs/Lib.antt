@@ -2,4 +2,5 @@ pub mod Kept
 pub mod RecordingReaders
 pub mod Recordings
 pub mod Twin
+pub mod TwinGrowing
 pub mod TwinListeners

@@ -2,10 +2,11 @@ pub mod Answered
 pub mod Appended
 pub mod Connections
 pub mod Decisions
-pub mod FewBits
+pub mod FewWords
 pub mod InTurn
 pub mod LeftPool
 pub mod Protocols
+pub mod Recorded
 pub mod Servings
 pub mod SnppSessions
 pub mod Steps

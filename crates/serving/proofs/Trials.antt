@@ -32,6 +32,7 @@ use Rattle.serving.specs.Answering.{AnsweredBroken, AnsweredInput, AnsweredUnpri
 use Rattle.serving.specs.Answers.{answer_line, answer_lines}
 use Rattle.serving.specs.Leaves.{HasTried, HearingLeaves, LeavesAccepted, WasLast}
 use Rattle.listening.specs.Noise.{ListensThrough}
+use Rattle.serving.specs.Sent.{IsSent, Times, once, twice}
 use Rattle.serving.specs.TapSessions.{SessionOf}
 use Rattle.serving.specs.Trying.{HearsPages, TriedAnswers, TriedFront, TriedInput, TriedSession, trial_lines}
 use Rattle.endings.specs.Wrote.{Wrote, WroteFront}
@@ -45,6 +46,16 @@ air_of (page ∷ accepted) =
     let s = one_schedule (page ∷ accepted) (λ e. cc) in
     (words_bits (transmission s.0), (s.0, s.1, refl))
 
+-- and is sent once or twice
+pub sent_of : (times : Times) (accepted : List Page) → (sent : List Bool) × IsSent times accepted sent
+sent_of once accepted = air_of accepted
+sent_of twice accepted = let air = air_of accepted in (air.0 ++ air.0, (air.0, air.1, refl))
+
+-- of no page nothing is sent
+none_sent : (times : Times) (accepted : List Page) → accepted ≡ [] → IsSent times accepted []
+none_sent once accepted e = subst (λ (p : List Page). IsAir p []) (sym e) refl
+none_sent twice accepted e = ([], subst (λ (p : List Page). IsAir p []) (sym e) refl, refl)
+
 -- a pool without live pages has no pages
 pub no_pages : (w : Pool) → length w.live ≡ 0 → pages w ≡ []
 no_pages w e = none w.live e
@@ -54,10 +65,10 @@ no_pages w e = none w.live e
     none (x ∷ es) e = cc
 
 -- what is heard of no page
-pub hears_none : (accepted : List Page) (printed : List Bool → List ℕ) (n : Left Bool) (o : Written ℕ) → printed [] ≡ [] → accepted ≡ [] → HearsPages accepted printed n n o o Done
-hears_none accepted printed n o silent e = record {
+pub hears_none : (times : Times) (accepted : List Page) (printed : List Bool → List ℕ) (n : Left Bool) (o : Written ℕ) → printed [] ≡ [] → accepted ≡ [] → HearsPages times accepted printed n n o o Done
+hears_none times accepted printed n o silent e = record {
   air = [];
-  is_air = subst (λ (p : List Page). IsAir p []) (sym e) refl;
+  is_sent = none_sent times accepted e;
   heard = through_all printed [] [] _ n n o o refl (through_begins printed [] n o (silent));
 }
 
@@ -127,16 +138,16 @@ tries_unanswered settings spare i0 i n o0 o taken h = record {
       (front_answers settings spare h.fed ((h.fed_is).rest ++ i.left) h.session session h.session_is (subst (λ (z : List ℕ). SessionOf settings spare z session) all is));
 }
 
-abbrev tried : (settings : Parts) (spare : ℕ) (i0 i : Left ℕ) (before after : Pool) (desk : TerminalState) (o0 o1 : Written ℕ) (air : List Bool) → (h : AnsweredInput settings spare i0 i before after desk o0 o1) → pages before ≡ []
-    → IsAir (pages after) air → TriedSession settings spare i0 i
-tried settings spare i0 i before after desk o0 o1 air h none is = record {
+abbrev tried : (times : Times) (settings : Parts) (spare : ℕ) (i0 i : Left ℕ) (before after : Pool) (desk : TerminalState) (o0 o1 : Written ℕ) (air : List Bool) → (h : AnsweredInput settings spare i0 i before after desk o0 o1) → pages before ≡ []
+    → IsSent times (pages after) air → TriedSession times settings spare i0 i
+tried times settings spare i0 i before after desk o0 o1 air h none is = record {
   taken = h.taken;
   took = h.took;
   session = h.session;
   session_is = h.session_is;
   of_all = h.of_all;
   air = air;
-  is_air = subst (λ (p : List Page). IsAir p air) (h.leaves.gained.pages_are ∙ ap (λ (p : List Page). p ++ h.session.pages) none) is;
+  is_sent = subst (λ (p : List Page). IsSent times p air) (h.leaves.gained.pages_are ∙ ap (λ (p : List Page). p ++ h.session.pages) none) is;
 }
 
 -- the session that was answered was the terminal's last one
@@ -152,18 +163,18 @@ leaves_accepted settings spare session before after desk none h = record {
 }
 
 -- the line between couldn't be printed
-abbrev pub tries_between : (settings : Parts) (spare : ℕ) (printed : List Bool → List ℕ) (i0 i : Left ℕ) (before after : Pool) (desk : TerminalState) (n : Left Bool) (o0 o1 o2 : Written ℕ) (piece : List ℕ) (e : Failed)
+abbrev pub tries_between : (times : Times) (settings : Parts) (spare : ℕ) (printed : List Bool → List ℕ) (i0 i : Left ℕ) (before after : Pool) (desk : TerminalState) (n : Left Bool) (o0 o1 o2 : Written ℕ) (piece : List ℕ) (e : Failed)
     → printed [] ≡ [] → Grows printed → piece ≡ codes "---\n" → AnsweredInput settings spare i0 i before after desk o0 o1 → pages before ≡ [] → Puts {T = Unit {0}} o1 o2 piece (Err e)
-    → TriedFront settings spare printed i0 i n n o0 o2
-tries_between settings spare printed i0 i before after desk n o0 o1 o2 piece e silent g is h none k =
-    let a = air_of (pages after) in
+    → TriedFront times settings spare printed i0 i n n o0 o2
+tries_between times settings spare printed i0 i before after desk n o0 o1 o2 piece e silent g is h none k =
+    let a = sent_of times (pages after) in
     let wrote : WroteFront o0 o2 (trial_lines printed h.session []) =
     subst (λ (z : List ℕ). WroteFront o0 o2 z)
     (ap (λ (z : List ℕ). answer_lines h.session.answers ++ z) is ∙ (sym (append-nil (answer_lines h.session.answers ++ codes "---\n"))
     ∙ ap (λ (z : List ℕ). answer_lines h.session.answers ++ codes "---\n" ++ z) (sym (silent))))
     (WroteFront-then {T = Unit {0}} o0 o1 o2 (answer_lines h.session.answers) piece e h.wrote k) in
     record {
-      tried = tried settings spare i0 i before after desk o0 o1 a.0 h none a.1;
+      tried = tried times settings spare i0 i before after desk o0 o1 a.0 h none a.1;
       heard = [];
       rest = a.0;
       air_is = refl;
@@ -180,10 +191,10 @@ tries_between settings spare printed i0 i before after desk n o0 o1 o2 piece e s
     }
 
 -- the line between was printed, and then what was heard
-pub tries_heard : (settings : Parts) (spare : ℕ) (printed : List Bool → List ℕ) (i0 i : Left ℕ) (before after new : Pool) (desk : TerminalState) (n0 n : Left Bool) (o0 o1 o2 o3 : Written ℕ) (piece : List ℕ) (x : Unit {0})
+pub tries_heard : (times : Times) (settings : Parts) (spare : ℕ) (printed : List Bool → List ℕ) (i0 i : Left ℕ) (before after new : Pool) (desk : TerminalState) (n0 n : Left Bool) (o0 o1 o2 o3 : Written ℕ) (piece : List ℕ) (x : Unit {0})
     (status : Status) → Grows printed → piece ≡ codes "---\n" → AnsweredInput settings spare i0 i before after desk o0 o1 → pages before ≡ [] → Puts {E = Failed} o1 o2 piece (Ok x)
-    → HearsPages (pages after) printed n0 n o2 o3 status → HearingLeaves after new status → HasTried settings spare printed i0 i n0 n o0 o3 new desk status
-tries_heard settings spare printed i0 i before after new desk n0 n o0 o1 o2 o3 piece x status g is h none k q leaves = by_status status q.heard leaves
+    → HearsPages times (pages after) printed n0 n o2 o3 status → HearingLeaves after new status → HasTried times settings spare printed i0 i n0 n o0 o3 new desk status
+tries_heard times settings spare printed i0 i before after new desk n0 n o0 o1 o2 o3 piece x status g is h none k q leaves = by_status status q.heard leaves
   where
     between : Wrote o0 o2 (answer_lines h.session.answers ++ codes "---\n")
     between = subst (λ (z : List ℕ). Wrote o0 o2 (answer_lines h.session.answers ++ z)) is (Wrote-then {E = Failed} o0 o1 o2 (answer_lines h.session.answers) piece x h.wrote k)
@@ -191,11 +202,11 @@ tries_heard settings spare printed i0 i before after new desk n0 n o0 o1 o2 o3 p
     last : WasLast settings spare h.session desk
     last = was_last settings spare h.session before after desk h.leaves
 
-    by_status : (s : Status) → ListensThrough printed q.air n0 n o2 o3 s → HearingLeaves after new s → HasTried settings spare printed i0 i n0 n o0 o3 new desk s
+    by_status : (s : Status) → ListensThrough printed q.air n0 n o2 o3 s → HearingLeaves after new s → HasTried times settings spare printed i0 i n0 n o0 o3 new desk s
     by_status Done p l = record {
       leaves = record { no_page = l.all refl; last = last };
       tries = record {
-        tried = tried settings spare i0 i before after desk o0 o1 q.air h none q.is_air;
+        tried = tried times settings spare i0 i before after desk o0 o1 q.air h none q.is_sent;
         flips = p.noise;
         took_flips = p.took;
         of_noise = p.of_all;
@@ -209,7 +220,7 @@ tries_heard settings spare printed i0 i before after new desk n0 n o0 o1 o2 o3 p
     by_status FileFault p l = record {
       leaves = last;
       tries = record {
-        tried = tried settings spare i0 i before after desk o0 o1 q.air h none q.is_air;
+        tried = tried times settings spare i0 i before after desk o0 o1 q.air h none q.is_sent;
         heard = p.heard;
         rest = p.rest;
         air_is = p.bits_are;
@@ -226,7 +237,7 @@ tries_heard settings spare printed i0 i before after new desk n0 n o0 o1 o2 o3 p
     by_status OutFault p l = record {
       leaves = last;
       tries = inr (record {
-        tried = tried settings spare i0 i before after desk o0 o1 q.air h none q.is_air;
+        tried = tried times settings spare i0 i before after desk o0 o1 q.air h none q.is_sent;
         heard = p.heard;
         rest = p.rest;
         air_is = p.bits_are;

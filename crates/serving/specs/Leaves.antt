@@ -11,6 +11,7 @@ use Rattle.wires.specs.Written.{Written}
 use Rattle.endings.specs.declared.statuses.Status.{Status}
 use Rattle.endings.specs.declared.statuses.Status.TheVariants.{Done, FileFault, InputFault, OutFault, WireFault}
 use Rattle.serving.specs.Protocols.{Protocol, StateIn}
+use Rattle.serving.specs.Sent.{Times}
 use Rattle.serving.specs.Served.{Served}
 use Rattle.serving.specs.Serving.{Around, HasServed, SoFar}
 use Rattle.serving.specs.TapSessions.{TerminalStandsFor}
@@ -64,19 +65,19 @@ pub record LeavesAccepted (settings : Parts) (spare : ℕ) (session : Session) (
   pub last : WasLast settings spare session desk
 
 -- what a trial leaves, by how it ended. Where it failed behind the answers, pages of the session may wait.
-abbrev pub TrialLeaves : (settings : Parts) (spare : ℕ) (printed : List Bool → List ℕ) (old new : Left ℕ) (noise0 noise : Left Bool) (out0 out : Written ℕ) (pool : Pool) (desk : TerminalState)
-    (status : Status) → Tries settings spare printed old new noise0 noise out0 out status → Type 0
-TrialLeaves settings spare printed old new noise0 noise out0 out pool desk Done h = LeavesSent settings spare h.tried.session pool desk
-TrialLeaves settings spare printed old new noise0 noise out0 out pool desk FileFault h = WasLast settings spare h.tried.session desk
-TrialLeaves settings spare printed old new noise0 noise out0 out pool desk InputFault h = LeavesAccepted settings spare h.broken.session pool desk
-TrialLeaves settings spare printed old new noise0 noise out0 out pool desk OutFault (inl h) = LeavesAccepted settings spare h.unprinted.session pool desk
-TrialLeaves settings spare printed old new noise0 noise out0 out pool desk OutFault (inr h) = WasLast settings spare h.tried.session desk
-TrialLeaves settings spare printed old new noise0 noise out0 out pool desk other h = ⊥
+abbrev pub TrialLeaves : (times : Times) (settings : Parts) (spare : ℕ) (printed : List Bool → List ℕ) (old new : Left ℕ) (noise0 noise : Left Bool) (out0 out : Written ℕ) (pool : Pool) (desk : TerminalState)
+    (status : Status) → Tries times settings spare printed old new noise0 noise out0 out status → Type 0
+TrialLeaves times settings spare printed old new noise0 noise out0 out pool desk Done h = LeavesSent settings spare h.tried.session pool desk
+TrialLeaves times settings spare printed old new noise0 noise out0 out pool desk FileFault h = WasLast settings spare h.tried.session desk
+TrialLeaves times settings spare printed old new noise0 noise out0 out pool desk InputFault h = LeavesAccepted settings spare h.broken.session pool desk
+TrialLeaves times settings spare printed old new noise0 noise out0 out pool desk OutFault (inl h) = LeavesAccepted settings spare h.unprinted.session pool desk
+TrialLeaves times settings spare printed old new noise0 noise out0 out pool desk OutFault (inr h) = WasLast settings spare h.tried.session desk
+TrialLeaves times settings spare printed old new noise0 noise out0 out pool desk other h = ⊥
 
 -- a trial, by its status, and what it left
-pub record HasTried (settings : Parts) (spare : ℕ) (printed : List Bool → List ℕ) (old new : Left ℕ) (noise0 noise : Left Bool) (out0 out : Written ℕ) (pool : Pool) (desk : TerminalState) (status : Status) : Type 0 where
-  pub tries : Tries settings spare printed old new noise0 noise out0 out status
-  pub leaves : TrialLeaves settings spare printed old new noise0 noise out0 out pool desk status tries
+pub record HasTried (times : Times) (settings : Parts) (spare : ℕ) (printed : List Bool → List ℕ) (old new : Left ℕ) (noise0 noise : Left Bool) (out0 out : Written ℕ) (pool : Pool) (desk : TerminalState) (status : Status) : Type 0 where
+  pub tries : Tries times settings spare printed old new noise0 noise out0 out status
+  pub leaves : TrialLeaves times settings spare printed old new noise0 noise out0 out pool desk status tries
 
 -- What hearing pages leaves of their pool: the cells that it had, and behind Done no page.
 pub record HearingLeaves (before after : Pool) (status : Status) : Type 0 where

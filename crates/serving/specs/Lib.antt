@@ -4,6 +4,7 @@ pub mod InTurn
 pub mod Leaves
 pub mod Protocols
 pub mod ReportLine
+pub mod Sent
 pub mod Served
 pub mod Serving
 pub mod Sessions

@@ -1,6 +1,5 @@
 -- A trial: the session of an input, and what receivers hear of its pages through a noise.
 use Rattle.std.specs.Prelude.{◌≡◌, ◌≢◌, ◌⊎◌, ℕ, ◌≤◌, ◌<◌, Bool, List, [], ◌++◌, codes, length, IsTrue}
-use Rattle.air.specs.Air.{IsAir}
 use Rattle.page_text.specs.Page.{Page}
 use Rattle.wires.specs.Fronts.{IsFront}
 use Rattle.subscribers.specs.Parts.{Parts}
@@ -14,18 +13,20 @@ use Rattle.serving.specs.Answering.{AnsweredBroken, AnsweredUnprinted}
 use Rattle.serving.specs.Answers.{answer_lines}
 use Rattle.listening.specs.Listening.{FailedAfter}
 use Rattle.listening.specs.Noise.{ListensThrough}
+use Rattle.serving.specs.Sent.{IsSent, Times}
 use Rattle.serving.specs.TapSessions.{SessionOf}
 use Rattle.endings.specs.Wrote.{FitFor, StaysWell, Wrote, WroteFront}
 
--- The session of an input, which was read up to its End or to its end, and the transmission of the pages that it accepted.
-pub record TriedSession (settings : Parts) (spare : ℕ) (old new : Left ℕ) : Type 0 where
+-- The session of an input, which was read up to its End or to its end, and what is sent of the pages that it accepted: their transmission,
+-- once or twice.
+pub record TriedSession (times : Times) (settings : Parts) (spare : ℕ) (old new : Left ℕ) : Type 0 where
   pub taken : List ℕ
   pub took : Took old new taken
   pub session : Session
   pub session_is : SessionOf settings spare taken session
   pub of_all : IsTrue old.tells → SessionOf settings spare old.left session
   pub air : List Bool
-  pub is_air : IsAir session.pages air
+  pub is_sent : IsSent times session.pages air
 
 -- what a trial prints: the lines of the answers, a line of three hyphens, and what is printed of these bits
 abbrev pub trial_lines : (List Bool → List ℕ) → Session → List Bool → List ℕ
@@ -34,8 +35,8 @@ trial_lines printed session bits = answer_lines session.answers ++ codes "---\n"
 -- All was printed: what is heard of the transmission, each bit xor the noise's bit, and 0 behind the noise's end. Where
 -- anything is transmitted, the noise was there. As many bits of the noise were read, or all that it had, and where nothing is transmitted it is
 -- as before.
-pub record TriedAll (settings : Parts) (spare : ℕ) (printed : List Bool → List ℕ) (old new : Left ℕ) (noise0 noise : Left Bool) (out0 out : Written ℕ) : Type 0 where
-  pub tried : TriedSession settings spare old new
+pub record TriedAll (times : Times) (settings : Parts) (spare : ℕ) (printed : List Bool → List ℕ) (old new : Left ℕ) (noise0 noise : Left Bool) (out0 out : Written ℕ) : Type 0 where
+  pub tried : TriedSession times settings spare old new
   pub flips : List Bool
   pub took_flips : Took noise0 noise flips
   pub of_noise : IsTrue noise0.tells → noisy_bits tried.air flips ≡ noisy_bits tried.air noise0.left
@@ -47,8 +48,8 @@ pub record TriedAll (settings : Parts) (spare : ℕ) (printed : List Bool → Li
 
 -- The noise failed for a bit of the transmission. What is heard of the bits before was printed, and all that was printed is a front of the
 -- lines of the whole trial. As many bits of the noise were read. Where there are any, the noise was there.
-pub record TriedNoise (settings : Parts) (spare : ℕ) (printed : List Bool → List ℕ) (old new : Left ℕ) (noise0 noise : Left Bool) (out0 out : Written ℕ) : Type 0 where
-  pub tried : TriedSession settings spare old new
+pub record TriedNoise (times : Times) (settings : Parts) (spare : ℕ) (printed : List Bool → List ℕ) (old new : Left ℕ) (noise0 noise : Left Bool) (out0 out : Written ℕ) : Type 0 where
+  pub tried : TriedSession times settings spare old new
   pub heard : List Bool
   pub rest : List Bool
   pub air_is : tried.air ≡ heard ++ rest
@@ -64,8 +65,8 @@ pub record TriedNoise (settings : Parts) (spare : ℕ) (printed : List Bool → 
 -- A write failed behind the answers: a front of the lines was written of what is heard of a front of the transmission, and so a front of
 -- the lines of the whole trial. Where bits were heard, the noise was there. As many bits of the noise were read, or all that it had, and where
 -- no bit was heard it is as before.
-pub record TriedFront (settings : Parts) (spare : ℕ) (printed : List Bool → List ℕ) (old new : Left ℕ) (noise0 noise : Left Bool) (out0 out : Written ℕ) : Type 0 where
-  pub tried : TriedSession settings spare old new
+pub record TriedFront (times : Times) (settings : Parts) (spare : ℕ) (printed : List Bool → List ℕ) (old new : Left ℕ) (noise0 noise : Left Bool) (out0 out : Written ℕ) : Type 0 where
+  pub tried : TriedSession times settings spare old new
   pub heard : List Bool
   pub rest : List Bool
   pub air_is : tried.air ≡ heard ++ rest
@@ -93,22 +94,22 @@ pub record TriedInput (settings : Parts) (spare : ℕ) (old new : Left ℕ) (noi
   pub of_all : IsTrue old.tells → (session : Session) → SessionOf settings spare old.left session → IsFront (answer_lines broken.session.answers) (answer_lines session.answers)
 
 -- a trial, by status
-abbrev pub Tries : Parts → ℕ → (List Bool → List ℕ) → Left ℕ → Left ℕ → Left Bool → Left Bool → Written ℕ → Written ℕ → Status → Type 0
-Tries settings spare printed old new noise0 noise out0 out Done = TriedAll settings spare printed old new noise0 noise out0 out
-Tries settings spare printed old new noise0 noise out0 out FileFault = TriedNoise settings spare printed old new noise0 noise out0 out
-Tries settings spare printed old new noise0 noise out0 out InputFault = TriedInput settings spare old new noise0 noise out0 out
-Tries settings spare printed old new noise0 noise out0 out OutFault =
-    TriedAnswers settings spare old new noise0 noise out0 out ⊎ TriedFront settings spare printed old new noise0 noise out0 out
-Tries settings spare printed old new noise0 noise out0 out other = ⊥
+abbrev pub Tries : Times → Parts → ℕ → (List Bool → List ℕ) → Left ℕ → Left ℕ → Left Bool → Left Bool → Written ℕ → Written ℕ → Status → Type 0
+Tries times settings spare printed old new noise0 noise out0 out Done = TriedAll times settings spare printed old new noise0 noise out0 out
+Tries times settings spare printed old new noise0 noise out0 out FileFault = TriedNoise times settings spare printed old new noise0 noise out0 out
+Tries times settings spare printed old new noise0 noise out0 out InputFault = TriedInput settings spare old new noise0 noise out0 out
+Tries times settings spare printed old new noise0 noise out0 out OutFault =
+    TriedAnswers settings spare old new noise0 noise out0 out ⊎ TriedFront times settings spare printed old new noise0 noise out0 out
+Tries times settings spare printed old new noise0 noise out0 out other = ⊥
 
--- What receivers heard of the transmission of pages through a noise.
-pub record HearsPages (pages : List Page) (printed : List Bool → List ℕ) (noise0 noise : Left Bool) (out0 out : Written ℕ) (status : Status) : Type 0 where
+-- What receivers heard of what was sent of pages, through a noise.
+pub record HearsPages (times : Times) (pages : List Page) (printed : List Bool → List ℕ) (noise0 noise : Left Bool) (out0 out : Written ℕ) (status : Status) : Type 0 where
   pub air : List Bool
-  pub is_air : IsAir pages air
+  pub is_sent : IsSent times pages air
   pub heard : ListensThrough printed air noise0 noise out0 out status
 
 -- Over a steady output with room for all lines of the trial, no write failed, and the output is steady.
-abbrev pub TrialOutWell : Parts → ℕ → (List Bool → List ℕ) → Left ℕ → Left Bool → Written ℕ → Written ℕ → Status → Type 0
-TrialOutWell settings spare printed input noise out0 out status = IsTrue input.tells → IsTrue noise.tells
-    → (session : Session) (air : List Bool) → SessionOf settings spare input.left session → IsAir session.pages air
+abbrev pub TrialOutWell : Times → Parts → ℕ → (List Bool → List ℕ) → Left ℕ → Left Bool → Written ℕ → Written ℕ → Status → Type 0
+TrialOutWell times settings spare printed input noise out0 out status = IsTrue input.tells → IsTrue noise.tells
+    → (session : Session) (air : List Bool) → SessionOf settings spare input.left session → IsSent times session.pages air
     → FitFor out0 (trial_lines printed session (noisy_bits air noise.left)) → (status ≢ OutFault) × StaysWell out0 out

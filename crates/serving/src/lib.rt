@@ -6,6 +6,7 @@
 //! - `serving`: the connections of the station, one after another.
 //! - `reporting`: the report line of a session.
 //! - `answering`: the session of an input, without a connection.
+//! - `sending`: how the pages of a trial are sent, and what hears them.
 //! - `trial`: what receivers hear of the pages of such a session, through a noise.
 #![tactic(auto)]
 
@@ -14,6 +15,7 @@ mod entry;
 #[cfg(test)]
 mod report_tests;
 mod reporting;
+pub mod sending;
 mod serving;
 #[cfg(test)]
 mod serving_tests;
@@ -27,4 +29,5 @@ pub mod trial;
 #[cfg(test)]
 mod trial_tests;
 
+pub use sending::SentTwice;
 pub use session::{SessionEnd, Station};

@@ -4,18 +4,10 @@ use Rattle.std.proofs.lemmas.Bool.{ltb-false}
 use Rattle.std.proofs.lemmas.List.{length-map}
 use Rattle.std.proofs.lemmas.List.Sums.{sum_by-cons}
 use Rattle.std.specs.List.{cons_option, sum_by}
-use Rattle.air.specs.Air.{IsAir, batches, preamble, transmission}
-use Rattle.air.proofs.Batches.{length-batches}
+use Rattle.air.specs.Air.{IsAir, transmission}
 use Rattle.bits.proofs.Lengths.{length-words_bits}
-use Rattle.codeword.specs.Words.{message_of}
-use Rattle.codeword.specs.declared.functions.Function.{Function}
-use Rattle.codeword.specs.declared.functions.Function.TheVariants.{Numeric, Tone1, Tone2, Alpha}
 use Rattle.page_pool.specs.Cells.{cells_for, cells_of}
-use Rattle.page_text.specs.Groups.{groups, numeric_code}
 use Rattle.page_text.specs.Page.{Page}
-use Rattle.page_text.proofs.Groups.{length-groups_of}
-use Rattle.scheduler.specs.Slots.{run}
-use Rattle.scheduler.proofs.Schedules.{few_slots}
 use Rattle.subscribers.specs.Parts.{Parts}
 use Rattle.subscribers.specs.declared.subscriber.Subscriber.{Subscriber}
 use Rattle.tap_block.specs.Fields.{content_parts}
@@ -35,52 +27,14 @@ use Rattle.tap_terminal.specs.declared.answers.Answer.TheVariants.{Ack, Nak}
 use Rattle.tap_terminal.specs.declared.answers.Reason.TheVariants.{Body, Content, Room, Text}
 use Rattle.station.specs.AirRoom.{most_air}
 use Rattle.serving.specs.TapSessions.{SessionOf}
-
--- ---- the words of a page, by its cells
-
--- a text of n characters has at most 12 groups a cell
-cells_hold : (n : ℕ) → (n ≤ 32 * cells_for n) × (1 ≤ cells_for n)
-cells_hold n = (omega arith, omega arith)
-
-groups_few : (function : Function) (text : List ℕ) → length (groups function text) ≤ 12 * cells_for (length text)
-groups_few Numeric text = let h = cells_hold (length text) in let a = h.0 in let b = h.1 in omega (arith, length-groups_of 4 12 (map numeric_code text), length-map text numeric_code, a, b)
-groups_few Tone1 text = omega arith
-groups_few Tone2 text = omega arith
-groups_few Alpha text = let h = cells_hold (length text) in let a = h.0 in let b = h.1 in omega (arith, length-groups_of 7 0 text, a, b)
-
-run_few : (page : Page) → length (run page) ≤ 1 + 12 * cells_of page
-unfolding run
-run_few page = omega (arith, length-map (groups page.function page.text) message_of, groups_few page.function page.text)
-
--- pages take at least a cell each
-runs_few : (pages : List Page) → (sum_by (λ page. length (run page)) pages ≤ length pages + 12 * sum_by cells_of pages) × (length pages ≤ sum_by cells_of pages)
-runs_few [] = (omega arith, omega arith)
-runs_few (page ∷ pages) =
-    let on = runs_few pages in
-    let a = on.0 in
-    let b = on.1 in
-    let c = (cells_hold (length page.text)).1 in (
-      omega (arith, a, run_few page, sum_by-cons (λ (p : Page). length (run p)) page pages, sum_by-cons cells_of page pages),
-      omega (arith, b, c, sum_by-cons cells_of page pages),
-    )
+use Rattle.serving.proofs.FewWords.{length-transmission, slots_by_cells}
 
 -- ---- the bits of a transmission, by the cells of its pages
-
-length-preamble : length preamble ≡ 18
-unfolding preamble
-length-preamble = refl
-
-length-transmission : (slots : List ℕ) → length (transmission slots) ≡ 18 + 17 * (length slots / 16)
-length-transmission slots = omega (arith, length-append preamble (batches (length slots / 16) slots), length-preamble, length-batches (length slots / 16) slots (omega arith))
 
 pub air_few : (pages : List Page) (bits : List Bool) (spare : ℕ) → IsAir pages bits → sum_by cells_of pages ≤ spare → length bits ≤ 8 * most_air spare
 air_few [] bits spare h le = omega (arith, ap length h)
 air_few (page ∷ pages) bits spare h le =
-    let f = few_slots (page ∷ pages) h.0 (λ e. absurd cc) h.1 in
-    let r = runs_few (page ∷ pages) in
-    let a = r.0 in
-    let b = r.1 in
-    let n : length h.0 ≤ 27 * spare + 16 = omega (arith, f, a, b, le) in
+    let n = slots_by_cells page pages h.0 spare h.1 le in
     omega (arith, ap length h.2, length-words_bits (transmission h.0), length-transmission h.0, n)
 
 -- ---- the cells of a session's pages

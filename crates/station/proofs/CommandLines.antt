@@ -4,7 +4,7 @@ use Rattle.std.specs.Str.{bytes_eq}
 use Rattle.std.proofs.Common.{◌≡◌, ◌≢◌, ℕ, ◌<◌, ◌≤◌, Bool, true, false, List, [], ◌∷◌, Option, Some, None, length, get_or, sym, ◌∙◌, ap, subst, arith}
 use Rattle.std.specs.Prelude.{String, string_bytes}
 use Rattle.std.specs.declared.alloc.Global.{Global}
-use Rattle.station.specs.Commands.{AreCommand, AreLine, AreStation, Command, FilesDiffer, IsCountWord, IsSeedWord, Load, One, Play, PlayLine, Send, Show, Snpp, Station, Trial, WriteLine, texts}
+use Rattle.station.specs.Commands.{AreCommand, AreLine, AreStation, Command, FilesDiffer, IsCountWord, IsSeedWord, Load, One, Play, PlayLine, Send, Show, Snpp, Station, Trial, Twice, WriteLine, texts}
 
 -- the last of four words
 pub last_of_four : (words : List (String Global)) (item : String Global) (address settings air : List ℕ) (count : ℕ) → 4 ≤ length words → length words < 5
@@ -81,4 +81,5 @@ files_differ words (Some (Show air)) h = tt
 files_differ words (Some (Station address settings air count)) h = tt
 files_differ words (Some (Snpp address settings air count)) h = tt
 files_differ words (Some (Trial settings noise receivers)) h = tt
+files_differ words (Some (Twice settings noise receivers)) h = tt
 files_differ words (Some (Send address pages)) h = tt

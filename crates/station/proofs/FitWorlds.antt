@@ -29,7 +29,7 @@ use Rattle.endings.specs.declared.statuses.Status.{Status}
 use Rattle.endings.specs.declared.statuses.Status.TheVariants.{Done, Usage, Settings, FileFault, WireFault, OutFault, InputFault, NotBlock, BadSum, BadText, TooLong, LogonRefused, SomeUnsent, Memory, BadPages}
 use Rattle.station.specs.AirRoom.{most_air, most_said}
 use Rattle.station.specs.AlphaPage.{alpha_page}
-use Rattle.station.specs.Commands.{Command, Load, One, Play, PlayLine, Send, Show, Snpp, Station, Trial, WriteLine}
+use Rattle.station.specs.Commands.{Command, Load, One, Play, PlayLine, Send, Show, Snpp, Station, Trial, Twice, WriteLine}
 use Rattle.station.specs.FitWorlds.{roomy_connection, AreSteady, FitErrWithRoom, FitInMemory, FitWithRoom, HasFiles, longest_line_about, world, roomy}
 use Rattle.station.specs.LoneBlock.{HasText}
 use Rattle.station.specs.OneOutcome.{bits_listened}
@@ -40,7 +40,9 @@ use Rattle.station.specs.Outcomes.{line_about, pages_line}
 use Rattle.listening.specs.PageLines.{play_lines}
 use Rattle.serving.specs.ReportLine.{longest_line}
 use Rattle.station.specs.Rows.{Acts, Objects, around}
+use Rattle.serving.specs.Sent.{IsSent, Times, once, twice}
 use Rattle.serving.specs.TapSessions.{SessionOf}
+use Rattle.station.specs.StationRows.{lines_by}
 use Rattle.endings.specs.Statuses.{status_line}
 use Rattle.load.specs.Report.{load_lines}
 use Rattle.load.specs.declared.report.Report.{Report}
@@ -54,7 +56,7 @@ use Rattle.serving.specs.Protocols.{IsSessionIn, Protocol, SessionIn, snpp, spok
 use Rattle.station.proofs.CallRooms.{call_fits}
 use Rattle.station.proofs.EntryNumbers.{refusal_few}
 use Rattle.load.proofs.OneReport.{load_report, one_report}
-use Rattle.air.proofs.OneAir.{one_air}
+use Rattle.serving.proofs.TriedWell.{one_sent}
 
 -- ---- sums of the first values of a function
 
@@ -91,6 +93,14 @@ is_air_of : (pages : List Page) → IsAir pages (air_of pages)
 is_air_of [] = refl
 is_air_of (page ∷ pages) = (slots_of (page ∷ pages), slots_of-schedule (page ∷ pages) (λ e. absurd cc), refl)
 
+abbrev sent_by : Times → List Page → List Bool
+sent_by once accepted = air_of accepted
+sent_by twice accepted = air_of accepted ++ air_of accepted
+
+is_sent_by : (times : Times) (accepted : List Page) → IsSent times accepted (sent_by times accepted)
+is_sent_by once accepted = is_air_of accepted
+is_sent_by twice accepted = (air_of accepted, is_air_of accepted, refl)
+
 -- ---- each command
 
 -- one page with a text that fits
@@ -124,26 +134,26 @@ fit_station p address settings air count old s h room le = record {
   out = record { tells = s.out_tells; steady = s.out_steady; fits = omega (arith, le) };
 }
 
-abbrev trial_by : List (List ℕ) → List ℕ → List Bool → Result Parts SettingsFault → ℕ
-trial_by receivers input noise (Ok parts) =
+abbrev trial_by : Times → List (List ℕ) → List ℕ → List Bool → Result Parts SettingsFault → ℕ
+trial_by times receivers input noise (Ok parts) =
     let some = session_exists parts.password (directory_of parts) parts.cells (characters input) in
-    length (trial_lines (play_lines receivers) some.0 (noisy_bits (air_of some.0.pages) noise))
-trial_by receivers input noise (Err fault) = 0
+    length (trial_lines (lines_by times receivers) some.0 (noisy_bits (sent_by times some.0.pages) noise))
+trial_by times receivers input noise (Err fault) = 0
 
-abbrev trial_room : List (List ℕ) → Objects → List ℕ → List ℕ → ℕ
-trial_room receivers old settings noise = trial_by receivers old.streams.input.left (bytes_bits (old.shelf.file noise)) (settings_of (old.shelf.file settings))
+abbrev trial_room : Times → List (List ℕ) → Objects → List ℕ → List ℕ → ℕ
+trial_room times receivers old settings noise = trial_by times receivers old.streams.input.left (bytes_bits (old.shelf.file noise)) (settings_of (old.shelf.file settings))
 
-trial_fits : (receivers : List (List ℕ)) (input : List ℕ) (noise : List Bool) (parts : Parts) (session : Session) (air : List Bool) → SessionOf parts parts.cells input session → IsAir session.pages air
-    → length (trial_lines (play_lines receivers) session (noisy_bits air noise)) ≡ trial_by receivers input noise (Ok parts)
-trial_fits receivers input noise parts session air h a =
+trial_fits : (times : Times) (receivers : List (List ℕ)) (input : List ℕ) (noise : List Bool) (parts : Parts) (session : Session) (air : List Bool) → SessionOf parts parts.cells input session → IsSent times session.pages air
+    → length (trial_lines (lines_by times receivers) session (noisy_bits air noise)) ≡ trial_by times receivers input noise (Ok parts)
+trial_fits times receivers input noise parts session air h a =
     let some = session_exists parts.password (directory_of parts) parts.cells (characters input) in
     let same : session ≡ some.0 = one_session parts.password (directory_of parts) parts.cells (characters input) session some.0 h some.1 in
-    let bits : air ≡ air_of some.0.pages = one_air some.0.pages (air_of some.0.pages) air (is_air_of some.0.pages) (subst (λ (z : Session). IsAir z.pages air) same a) in
-    ap₂ (λ (z : Session) (b : List Bool). length (trial_lines (play_lines receivers) z (noisy_bits b noise))) same bits
+    let bits : air ≡ sent_by times some.0.pages = one_sent times some.0.pages (sent_by times some.0.pages) air (is_sent_by times some.0.pages) (subst (λ (z : Session). IsSent times z.pages air) same a) in
+    ap₂ (λ (z : Session) (b : List Bool). length (trial_lines (lines_by times receivers) z (noisy_bits b noise))) same bits
 
-fit_trial : (settings noise : List ℕ) (receivers : List (List ℕ)) (old : Objects) → AreSteady old → HasFiles (Some (Trial settings noise receivers)) old → (room : ℕ) → trial_room receivers old settings noise ≤ room
-    → FitTrial settings noise receivers (roomy room old).shelf (roomy room old).streams
-fit_trial settings noise receivers old s h room le = record {
+fit_trial : (times : Times) (settings noise : List ℕ) (receivers : List (List ℕ)) (old : Objects) → AreSteady old → HasFiles (Some (Trial settings noise receivers)) old → (room : ℕ) → trial_room times receivers old settings noise ≤ room
+    → FitTrial times settings noise receivers (roomy room old).shelf (roomy room old).streams
+fit_trial times settings noise receivers old s h room le = record {
   tells = s.shelf_tells;
   steady = s.shelf_steady;
   there = h.0;
@@ -153,8 +163,8 @@ fit_trial settings noise receivers old s h room le = record {
   out_tells = s.out_tells;
   out_steady = s.out_steady;
   room = λ parts e session air is a.
-      let f = trial_fits receivers old.streams.input.left (bytes_bits (old.shelf.file noise)) parts session air is a in
-      omega (arith, f, le, ap (trial_by receivers old.streams.input.left (bytes_bits (old.shelf.file noise))) e);
+      let f = trial_fits times receivers old.streams.input.left (bytes_bits (old.shelf.file noise)) parts session air is a in
+      omega (arith, f, le, ap (trial_by times receivers old.streams.input.left (bytes_bits (old.shelf.file noise))) e);
 }
 
 abbrev send_room : List ℕ → ℕ
@@ -200,7 +210,8 @@ fit_with_room (Some (WriteLine air line seed)) old s h =
 fit_with_room (Some (Show air)) old s h = (length (table_of (bits_listened air old.shelf)), λ room le. (record { tells = s.shelf_tells; steady = s.shelf_steady; there = h }, record { tells = s.out_tells; steady = s.out_steady; room = le }))
 fit_with_room (Some (Station address settings air count)) old s h = (station_room tap count old settings, λ room le. fit_station tap address settings air count old s h room le)
 fit_with_room (Some (Snpp address settings air count)) old s h = (station_room snpp count old settings, λ room le. fit_station snpp address settings air count old s h room le)
-fit_with_room (Some (Trial settings noise receivers)) old s h = (trial_room receivers old settings noise, λ room le. fit_trial settings noise receivers old s h room le)
+fit_with_room (Some (Trial settings noise receivers)) old s h = (trial_room once receivers old settings noise, λ room le. fit_trial once settings noise receivers old s h room le)
+fit_with_room (Some (Twice settings noise receivers)) old s h = (trial_room twice receivers old settings noise, λ room le. fit_trial twice settings noise receivers old s h room le)
 fit_with_room (Some (Send address pages)) old s h = (send_room (old.wire.connection old.wire.opened).rest, λ room le. fit_send address pages old s h room le)
 
 -- ---- the line about an outcome
@@ -266,6 +277,9 @@ err_few (Some (Snpp address settings air count)) old new (Misread fault) h = eli
 err_few (Some (Trial settings noise receivers)) old new (Ended status) h = let a = status_few status in omega (arith, a)
 err_few (Some (Trial settings noise receivers)) old new (Refused fault) h = refusal_few h.row.0.seen fault h.row.0.of_seen
 err_few (Some (Trial settings noise receivers)) old new (Misread fault) h = elim h.row [ ]
+err_few (Some (Twice settings noise receivers)) old new (Ended status) h = let a = status_few status in omega (arith, a)
+err_few (Some (Twice settings noise receivers)) old new (Refused fault) h = refusal_few h.row.0.seen fault h.row.0.of_seen
+err_few (Some (Twice settings noise receivers)) old new (Misread fault) h = elim h.row [ ]
 err_few (Some (Send address pages)) old new (Ended status) h = let a = status_few status in omega (arith, a)
 err_few (Some (Send address pages)) old new (Refused fault) h = elim h.row [ ]
 err_few (Some (Send address pages)) old new (Misread Pages.Memory) h = elim h.row [ ]
@@ -291,6 +305,7 @@ has_files (Some (Show air)) heard input file = refl
 has_files (Some (Station address settings air count)) heard input file = (refl, inl refl)
 has_files (Some (Snpp address settings air count)) heard input file = (refl, inl refl)
 has_files (Some (Trial settings noise receivers)) heard input file = (refl, refl)
+has_files (Some (Twice settings noise receivers)) heard input file = (refl, refl)
 has_files (Some (Send address pages)) heard input file = (refl, omega arith)
 
 steady_world : (heard input : List ℕ) (file : List ℕ → List ℕ) → AreSteady (world heard file input)

@@ -9,6 +9,7 @@ pub mod Saying
 pub mod ListedCapcodes
 pub mod ListedReceivers
 pub mod Pairs
+pub mod FewCells
 pub mod FilesRead
 pub mod SettingsRead
 pub mod SettingsRuns

@@ -1,6 +1,6 @@
 -- Words are one command's at most.
 use Rattle.std.proofs.Common.{◌≡◌, ℕ, ◌+◌, List, [], ◌∷◌, Option, Some, None, get_or, length, refl, sym, ◌∙◌, ap, ap₂, arith}
-use Rattle.station.specs.Commands.{AreCommand, AreLine, AreLoad, AreOne, ArePlay, AreSend, AreShow, AreStation, AreTrial, Command, IsCommand, IsReceiverWord, Load, One, Play, PlayLine, Say, Send, Show, Snpp, Station, Trial, WriteLine}
+use Rattle.station.specs.Commands.{AreCommand, AreLine, AreLoad, AreOne, ArePlay, AreSend, AreShow, AreStation, AreTrial, Command, IsCommand, IsReceiverWord, Load, One, Play, PlayLine, Say, Send, Show, Snpp, Station, Trial, Twice, WriteLine}
 use Rattle.station.proofs.ListedCapcodes.{one_receiver}
 use Rattle.station.proofs.Saying.{Say-one}
 
@@ -15,6 +15,7 @@ mark (Show air) = 108
 mark (Station address settings air count) = 123
 mark (Snpp address settings air count) = 114
 mark (Trial settings noise receivers) = 119
+mark (Twice settings noise receivers) = 124
 mark (Send address pages) = 105
 
 mark_is : (name : List ℕ) (words : List (List ℕ)) (command : Command) → IsCommand (name ∷ words) command → get_or name 1 0 + length name ≡ mark command
@@ -28,6 +29,7 @@ mark_is name words (Show air) h = ap (λ (l : List ℕ). get_or l 1 0 + length l
 mark_is name words (Station address settings air count) h = ap (λ (l : List ℕ). get_or l 1 0 + length l) h.0
 mark_is name words (Snpp address settings air count) h = ap (λ (l : List ℕ). get_or l 1 0 + length l) h.0
 mark_is name words (Trial settings noise receivers) h = ap (λ (l : List ℕ). get_or l 1 0 + length l) h.0
+mark_is name words (Twice settings noise receivers) h = ap (λ (l : List ℕ). get_or l 1 0 + length l) h.0
 mark_is name words (Send address pages) h = ap (λ (l : List ℕ). get_or l 1 0 + length l) h.0
 
 one_receivers : (words a b : List (List ℕ)) → Say IsReceiverWord words a → Say IsReceiverWord words b → b ≡ a
@@ -77,6 +79,12 @@ one_trial (w ∷ []) s s2 n n2 rs rs2 h k = elim h [ ]
 one_trial (w ∷ v ∷ words) s s2 n n2 rs rs2 h k =
     ap₂ (λ (a b : List ℕ). Trial a b rs2) (sym k.0 ∙ h.0) (sym k.1 ∙ h.1) ∙ ap (Trial s n) (one_receivers words rs rs2 h.4.say k.4.say)
 
+one_twice : (words : List (List ℕ)) (s s2 n n2 : List ℕ) (rs rs2 : List (List ℕ)) → AreTrial words s n rs → AreTrial words s2 n2 rs2 → Twice s2 n2 rs2 ≡ Twice s n rs
+one_twice [] s s2 n n2 rs rs2 h k = elim h [ ]
+one_twice (w ∷ []) s s2 n n2 rs rs2 h k = elim h [ ]
+one_twice (w ∷ v ∷ words) s s2 n n2 rs rs2 h k =
+    ap₂ (λ (a b : List ℕ). Twice a b rs2) (sym k.0 ∙ h.0) (sym k.1 ∙ h.1) ∙ ap (Twice s n) (one_receivers words rs rs2 h.4.say k.4.say)
+
 one_station : (made : List ℕ → List ℕ → List ℕ → ℕ → Command) (words : List (List ℕ)) (a a2 s s2 f f2 : List ℕ) (n n2 : ℕ) → AreStation words a s f n → AreStation words a2 s2 f2 n2 → made a2 s2 f2 n2 ≡ made a s f n
 one_station made [] a a2 s s2 f f2 n n2 h k = elim h [ ]
 one_station made (w ∷ []) a a2 s s2 f f2 n n2 h k = elim h [ ]
@@ -98,6 +106,7 @@ one_some (name ∷ words) (Show a) (Show b) h k = one_show words a b h.1 k.1
 one_some (name ∷ words) (Station a s f n) (Station a2 s2 f2 n2) h k = one_station Station words a a2 s s2 f f2 n n2 h.1 k.1
 one_some (name ∷ words) (Snpp a s f n) (Snpp a2 s2 f2 n2) h k = one_station Snpp words a a2 s s2 f f2 n n2 h.1 k.1
 one_some (name ∷ words) (Trial s n c) (Trial s2 n2 c2) h k = one_trial words s s2 n n2 c c2 h.1 k.1
+one_some (name ∷ words) (Twice s n c) (Twice s2 n2 c2) h k = one_twice words s s2 n n2 c c2 h.1 k.1
 one_some (name ∷ words) (Send a p) (Send b q) h k = one_send words a b p q h.1 k.1
 one_some (name ∷ words) a b h k = let e = mark_is name words a h in let f = mark_is name words b k in absurd (omega (arith, e, f))
 

@@ -7,7 +7,7 @@ use Rattle.station.specs.declared.outcomes.Outcome.{Outcome}
 use Rattle.station.specs.declared.outcomes.Outcome.TheVariants.{Ended, Misread, Refused}
 use Rattle.endings.specs.declared.statuses.Status.{Status}
 use Rattle.endings.specs.declared.statuses.Status.TheVariants.{BadPages, Done, Memory, OutFault, Settings}
-use Rattle.station.specs.Commands.{Command, Load, One, Play, PlayLine, Send, Show, Snpp, Station, Trial, WriteLine}
+use Rattle.station.specs.Commands.{Command, Load, One, Play, PlayLine, Send, Show, Snpp, Station, Trial, Twice, WriteLine}
 use Rattle.serving.specs.Protocols.{snpp, tap}
 use Rattle.station.specs.OneRun.{FitRun, OneRun}
 use Rattle.station.specs.Outcomes.{Tells, TellsMisread, TellsOutcome, TellsRefusal, line_about, pages_line, settings_line}
@@ -16,6 +16,7 @@ use Rattle.endings.specs.Statuses.{status_line}
 use Rattle.station.specs.OneOutcome.{LeftAlike}
 use Rattle.station.proofs.LeftAlike.{kept_alike}
 use Rattle.endings.specs.Wrote.{FitFor}
+use Rattle.serving.specs.Sent.{once, twice}
 use Rattle.station.proofs.OneCommands.{one_command}
 use Rattle.station.proofs.OneOfOne.{one_one}
 use Rattle.station.proofs.OneLoads.{one_load}
@@ -87,7 +88,8 @@ acts_alike (Some (Show air)) old new other outcome another fit h k some some2 =
     came_alike _ _ outcome another (λ s t a b n m. one_show air old new other s t fit.0 fit.1 a b) h k some some2
 acts_alike (Some (Station address settings air count)) old new other outcome another fit h k some some2 = one_station tap address settings air count old new other outcome another fit h k some some2
 acts_alike (Some (Snpp address settings air count)) old new other outcome another fit h k some some2 = one_station snpp address settings air count old new other outcome another fit h k some some2
-acts_alike (Some (Trial settings noise receivers)) old new other outcome another fit h k some some2 = one_trial settings noise receivers old new other outcome another fit h k some some2
+acts_alike (Some (Trial settings noise receivers)) old new other outcome another fit h k some some2 = one_trial once settings noise receivers old new other outcome another fit h k some some2
+acts_alike (Some (Twice settings noise receivers)) old new other outcome another fit h k some some2 = one_trial twice settings noise receivers old new other outcome another fit h k some some2
 acts_alike (Some (Send address pages)) old new other outcome another fit h k some some2 = one_send address pages old new other outcome another fit h k some some2
 
 -- a run that had memory came to something else

@@ -9,13 +9,10 @@ use mathlib.Core.Path.{fun_ext}
 use Rattle.receiver.specs.Listeners.{Listener, is_one_of}
 use Rattle.receiver.specs.Receivers.{has_in, is_listed, is_paired, most_receivers}
 use Rattle.receiver.specs.Shown.{has_of}
+use Rattle.repeats.specs.TwinListeners.{TwinListener}
 use Rattle.listening.specs.PageLines.{group_lines, lines_heard, play_lines}
-use Rattle.station.specs.Pairs.{paired_with}
-
--- the pairs of receivers that are numbered from a number on, in their order
-abbrev pub pairs_from : ℕ → List (List ℕ) → List (ℕ × ℕ)
-pairs_from number [] = []
-pairs_from number (capcodes ∷ receivers) = paired_with number capcodes ++ pairs_from (suc number) receivers
+use Rattle.listening.specs.TwinLines.{lines_heard_twice, twice_lines, twin_group_lines}
+use Rattle.station.specs.Pairs.{paired_with, pairs_from}
 
 -- ---- the capcodes of the pairs are those of the receivers
 
@@ -157,16 +154,33 @@ pairs-all receivers items i le so = so ∙ ap (pairs_from 1) (take_all i receive
 
 -- ---- what a group prints
 
+-- which capcodes are listened to, and which receiver has which
+same_listens : (capcodes : List ℕ) (receivers : List (List ℕ)) (pairs : List (ℕ × ℕ)) → pairs ≡ pairs_from 1 receivers → ((c : ℕ) → is_one_of capcodes c ≡ is_listed pairs c)
+    → is_one_of capcodes ≡ is_one_of (concat receivers)
+same_listens capcodes receivers pairs is same = fun_ext (λ (c : ℕ). same c ∙ ap (λ (ps : List (ℕ × ℕ)). is_listed ps c) is ∙ listed-pairs 1 receivers c)
+
+same_has : (holders : List (ℕ × ℕ)) (receivers : List (List ℕ)) (pairs : List (ℕ × ℕ)) → pairs ≡ pairs_from 1 receivers → ((number c : ℕ) → has_in holders number c ≡ is_paired pairs number c)
+    → has_in holders ≡ has_of receivers
+same_has holders receivers pairs is has =
+    fun_ext (λ (number : ℕ). fun_ext (λ (c : ℕ). has number c ∙ ap (λ (ps : List (ℕ × ℕ)). is_paired ps number c) is ∙ paired-has receivers number c))
+
 -- it depends on which receiver has which capcode, and not on how that is kept
 group_prints : (group : Listener) (receivers : List (List ℕ)) (pairs : List (ℕ × ℕ)) → pairs ≡ pairs_from 1 receivers
     → ((c : ℕ) → is_one_of group.capcodes c ≡ is_listed pairs c) → ((number c : ℕ) → has_in group.holders number c ≡ is_paired pairs number c)
     → group_lines group ≡ play_lines receivers
 group_prints group receivers pairs is same has =
-    ap₂ lines_heard (fun_ext (λ (c : ℕ). same c ∙ ap (λ (ps : List (ℕ × ℕ)). is_listed ps c) is ∙ listed-pairs 1 receivers c))
-    (fun_ext (λ (number : ℕ). fun_ext (λ (c : ℕ). has number c ∙ ap (λ (ps : List (ℕ × ℕ)). is_paired ps number c) is ∙ paired-has receivers number c)))
+    ap₂ lines_heard (same_listens group.capcodes receivers pairs is same) (same_has group.holders receivers pairs is has)
 
 pub made_prints : {E : Type 0} (made : Result Listener E) (receivers : List (List ℕ)) (pairs : List (ℕ × ℕ)) → pairs ≡ pairs_from 1 receivers
     → IfOk made (λ g. (c : ℕ) → is_one_of g.capcodes c ≡ is_listed pairs c) → IfOk made (λ g. (number c : ℕ) → has_in g.holders number c ≡ is_paired pairs number c)
     → IfOk made (λ g. group_lines g ≡ play_lines receivers)
 made_prints (Ok group) receivers pairs is same has = group_prints group receivers pairs is same has
 made_prints (Err e) receivers pairs is same has = tt
+
+-- and so it is with a group that hears transmissions twice
+pub made_twice_prints : {E : Type 0} (made : Result TwinListener E) (receivers : List (List ℕ)) (pairs : List (ℕ × ℕ)) → pairs ≡ pairs_from 1 receivers
+    → IfOk made (λ g. (c : ℕ) → is_one_of g.capcodes c ≡ is_listed pairs c) → IfOk made (λ g. (number c : ℕ) → has_in g.holders number c ≡ is_paired pairs number c)
+    → IfOk made (λ g. twin_group_lines g ≡ twice_lines receivers)
+made_twice_prints (Ok group) receivers pairs is same has =
+    ap₂ lines_heard_twice (same_listens group.capcodes receivers pairs is same) (same_has group.holders receivers pairs is has)
+made_twice_prints (Err e) receivers pairs is same has = tt

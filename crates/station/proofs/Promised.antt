@@ -3,7 +3,7 @@ use Rattle.std.proofs.Common.{◌≡◌, ℕ, ◌+◌, ◌≤◌, ◌==◌, Bool
 use Rattle.std.proofs.lemmas.List.{length-take, take-append-drop, take-map}
 use Rattle.std.proofs.lemmas.List.Elements.{All-nil, All-cons, All-head, All-tail}
 use Rattle.std.specs.Prelude.{◌⊎◌, IsTrue, All}
-use Rattle.std.specs.List.{AllByRecursion, concat}
+use Rattle.std.specs.List.{AllByRecursion, concat, sum_by}
 use Rattle.std.proofs.lemmas.List.Folds.{list_any-append}
 use Rattle.bits.specs.Bits.{bytes_bits, xor}
 use Rattle.codeword.specs.Capcodes.{IsUsable}
@@ -24,15 +24,24 @@ use Rattle.wires.specs.Stacked.{noisy_bits}
 use Rattle.wires.specs.Written.{Written}
 use Rattle.sampler.proofs.Line.{line_back}
 use Rattle.station.proofs.ProtocolSessions.{are_acceptable, one_in, queued_at_sends}
+use Rattle.station.proofs.AirRooms.{pages_within}
+use Rattle.station.proofs.FewCells.{few_cells}
 use Rattle.station.proofs.Pairs.{has-listed}
 use Rattle.near.proofs.NearAir.{near_air}
+use Rattle.page_pool.specs.Cells.{cells_of}
+use Rattle.repeats.specs.Kept.{SlotsAreHeld}
+use Rattle.repeats.specs.Twin.{held_slots, heard_twice}
+use Rattle.repeats.proofs.Kept.{kept_frames}
+use Rattle.scheduler.specs.Slots.{IsSchedule}
+use Rattle.serving.proofs.FewWords.{slots_by_cells}
+use Rattle.serving.specs.Sent.{once, twice}
 use Rattle.serving.proofs.WholeSessions.{turn-wholes}
 use Rattle.station.specs.declared.outcomes.Outcome.{Outcome}
 use Rattle.station.specs.declared.outcomes.Outcome.TheVariants.{Ended, Misread, Refused}
 use Rattle.endings.specs.declared.statuses.Status.TheVariants.{Done, FileFault, OutFault, Usage, WireFault}
-use Rattle.station.specs.Commands.{AreCommand, Command, IsCapcodeWord, IsReceiverWord, Load, One, Play, PlayLine, Say, Send, Show, Snpp, Station, Trial, WriteLine, plus_parts}
+use Rattle.station.specs.Commands.{AreCommand, Command, IsCapcodeWord, IsReceiverWord, Load, One, Play, PlayLine, Say, Send, Show, Snpp, Station, Trial, Twice, WriteLine, plus_parts}
 use Rattle.near.specs.NearAir.{AreUsable}
-use Rattle.station.specs.Promises.{AcceptedWhileFit, AreAccepted, FaultPromise, FilePromise, HearLists, HearNear, HearNearLine, HearsTrial, QueuedAtSends, ServedSend, StationPromise, TrialPromise, accepted_in}
+use Rattle.station.specs.Promises.{AcceptedWhileFit, AreAccepted, FaultPromise, FilePromise, HearLists, HearNear, HearNearLine, HearsTrial, QueuedAtSends, ServedSend, HearsTwice, StationPromise, TrialPromise, TwicePromise, accepted_in}
 use Rattle.station.specs.ReadFile.{ReadSettings, Unreadable}
 use Rattle.station.specs.Rows.{Acts, Objects, Promises}
 use Rattle.serving.specs.Protocols.{Protocol, SessionIn, queued_in, snpp, tap}
@@ -112,7 +121,7 @@ file_same name old now bits settings parts r b t =
     (subst IsTrue (sym (b.tells ∙ r.unharmed.kept.tells)) t, b.left ∙ ap (λ files. bytes_bits (files.file name)) r.unharmed.kept.files)
 
 trial_promise : (settings noise : List ℕ) (receivers : List (List ℕ)) (input0 input : Left ℕ) (old new : Files) (out0 out : Written ℕ) (outcome : Outcome)
-    (row : TrialRow settings noise receivers input0 input old new out0 out outcome) → AreUsable (is_one_of (concat receivers))
+    (row : TrialRow once settings noise receivers input0 input old new out0 out outcome) → AreUsable (is_one_of (concat receivers))
     → TrialPromise settings noise receivers input0 input old new out0 out outcome row
 trial_promise settings noise receivers input0 input old new out0 out (Refused fault) row u = tt
 trial_promise settings noise receivers input0 input old new out0 out (Misread fault) row u = tt
@@ -121,9 +130,45 @@ trial_promise settings noise receivers input0 input old new out0 out (Ended Done
     let s = row.tried.tries.tried in
     hears_trial receivers s.session.pages s.air row.tried.tries.flips (bytes_bits (old.file noise)) u
     (are_acceptable tap (old.file settings) row.parts row.parts.cells s.taken s.session (row.read.settings_are t) s.session_is)
-    s.is_air (row.tried.tries.of_noise b.0 ∙ ap (noisy_bits s.air) b.1)
+    s.is_sent (row.tried.tries.of_noise b.0 ∙ ap (noisy_bits s.air) b.1)
 trial_promise settings noise receivers input0 input old new out0 out (Ended Usage) row u = tt
 trial_promise settings noise receivers input0 input old new out0 out (Ended status) row u = tt
+
+-- ---- a trial whose transmission is sent twice
+
+-- a transmission of so few cells has no more slots than are held
+slots_are_held : (pages : List Page) → sum_by cells_of pages ≤ 65536 → SlotsAreHeld pages
+unfolding held_slots
+slots_are_held [] le slots are = let none = nothing slots are in omega arith
+slots_are_held (page ∷ pages) le slots are = let n = slots_by_cells page pages slots 65536 are le in omega (arith, n)
+
+hears_twice : (receivers : List (List ℕ)) (pages : List Page) (air flips noise : List Bool) → AreUsable (is_one_of (concat receivers)) → All IsAcceptable pages → sum_by cells_of pages ≤ 65536
+    → noisy_bits air flips ≡ noisy_bits air noise → HearsTwice receivers pages air flips noise
+hears_twice receivers pages air flips noise u h few e = record {
+  bits = e;
+  kept = λ near number f some most.
+      let has = has_of receivers in
+      let heard = noisy_bits air flips in
+      ap (pages_of_frame f) (shown_by-shown has number (map with_text (heard_twice (is_one_of (concat receivers)) heard)) some most)
+      ∙ kept_frames (is_one_of (concat receivers)) pages heard u h (slots_are_held pages few) near (has number) f (λ c held. has-listed receivers number c held);
+}
+
+twice_promise : (settings noise : List ℕ) (receivers : List (List ℕ)) (input0 input : Left ℕ) (old new : Files) (out0 out : Written ℕ) (outcome : Outcome)
+    (row : TrialRow twice settings noise receivers input0 input old new out0 out outcome) → AreUsable (is_one_of (concat receivers))
+    → TwicePromise settings noise receivers input0 input old new out0 out outcome row
+twice_promise settings noise receivers input0 input old new out0 out (Refused fault) row u = tt
+twice_promise settings noise receivers input0 input old new out0 out (Misread fault) row u = tt
+twice_promise settings noise receivers input0 input old new out0 out (Ended Done) row u = λ t.
+    let b = file_same noise old row.shelf row.tried.bits settings row.parts row.read row.tried.bits_are t in
+    let s = row.tried.tries.tried in
+    let are = row.read.settings_are t in
+    let within = pages_within row.parts row.parts.cells s.taken s.session s.session_is in
+    let most = few_cells (old.file settings) row.parts are in
+    hears_twice receivers s.session.pages s.air row.tried.tries.flips (bytes_bits (old.file noise)) u
+    (are_acceptable (old.file settings) row.parts row.parts.cells s.taken s.session are s.session_is) (omega (arith, within, most))
+    (row.tried.tries.of_noise b.0 ∙ ap (noisy_bits s.air) b.1)
+twice_promise settings noise receivers input0 input old new out0 out (Ended Usage) row u = tt
+twice_promise settings noise receivers input0 input old new out0 out (Ended status) row u = tt
 
 -- ---- sessions that were served
 
@@ -232,3 +277,8 @@ promised (name ∷ []) (Some (Trial settings noise receivers)) old new outcome a
 promised (name ∷ s ∷ []) (Some (Trial settings noise receivers)) old new outcome acts h = elim h.1 [ ]
 promised (name ∷ s ∷ f ∷ words) (Some (Trial settings noise receivers)) old new outcome acts h =
     trial_promise settings noise receivers _ _ _ _ _ _ outcome acts.row (AreUsable-words words receivers h.1.4.say)
+promised [] (Some (Twice settings noise receivers)) old new outcome acts h = elim h [ ]
+promised (name ∷ []) (Some (Twice settings noise receivers)) old new outcome acts h = elim h.1 [ ]
+promised (name ∷ s ∷ []) (Some (Twice settings noise receivers)) old new outcome acts h = elim h.1 [ ]
+promised (name ∷ s ∷ f ∷ words) (Some (Twice settings noise receivers)) old new outcome acts h =
+    twice_promise settings noise receivers _ _ _ _ _ _ outcome acts.row (AreUsable-words words receivers h.1.4.say)

@@ -23,18 +23,18 @@ abbrev pub GivesUsable : (List ℕ → Option Subscriber) → Type 0
 GivesUsable directory = (id : List ℕ) (s : Subscriber) → directory id ≡ Some s → IsUsable s.capcode
 
 -- what is there isn't a fault
-no_fault : {A B : Type 0} (fault : SettingsFault) (x : A) → ◌≡◌ {A = Result A SettingsFault} (Err fault) (Ok x) → B
+pub no_fault : {A B : Type 0} (fault : SettingsFault) (x : A) → ◌≡◌ {A = Result A SettingsFault} (Err fault) (Ok x) → B
 no_fault fault x h = absurd cc
 
 ok_same : {A : Type 0} (x y : A) → ◌≡◌ {A = Result A SettingsFault} (Ok x) (Ok y) → x ≡ y
 ok_same x y h = cc
 
 -- a test for a fault that didn't come
-Ok-from_else : {A : Type 0} (b : Bool) (fault : SettingsFault) (r : Result A SettingsFault) (x : A) → cond b (Err fault) r ≡ Ok x → r ≡ Ok x
+pub Ok-from_else : {A : Type 0} (b : Bool) (fault : SettingsFault) (r : Result A SettingsFault) (x : A) → cond b (Err fault) r ≡ Ok x → r ≡ Ok x
 Ok-from_else true fault r x h = no_fault fault x h
 Ok-from_else false fault r x h = h
 
-Ok-from_then : {A : Type 0} (b : Bool) (fault : SettingsFault) (r : Result A SettingsFault) (x : A) → cond b r (Err fault) ≡ Ok x → r ≡ Ok x
+pub Ok-from_then : {A : Type 0} (b : Bool) (fault : SettingsFault) (r : Result A SettingsFault) (x : A) → cond b r (Err fault) ≡ Ok x → r ≡ Ok x
 Ok-from_then true fault r x h = h
 Ok-from_then false fault r x h = no_fault fault x h
 

@@ -13,7 +13,7 @@ use Rattle.wires.specs.Line.{Line}
 use Rattle.wires.specs.Written.{Written}
 use Rattle.calling.specs.Calls.{CallsUp, SendsSo}
 use Rattle.station.specs.SendRows.{SendRow}
-use Rattle.station.specs.Commands.{Command, Load, One, Play, PlayLine, Send, Show, Snpp, Station, Trial, WriteLine}
+use Rattle.station.specs.Commands.{Command, Load, One, Play, PlayLine, Send, Show, Snpp, Station, Trial, Twice, WriteLine}
 use Rattle.station.specs.Rows.{Acts, HasEndedSo, Objects, Outside, Runs}
 use Rattle.serving.specs.Protocols.{Protocol, snpp, tap}
 use Rattle.serving.specs.Serving.{Around, HasServed}
@@ -72,6 +72,7 @@ count-acts (Some (Show air)) old new outcome h = came _ outcome new.wire.count o
 count-acts (Some (Station address settings air count)) old new outcome h = count-station tap address settings air count _ _ outcome h.row
 count-acts (Some (Snpp address settings air count)) old new outcome h = count-station snpp address settings air count _ _ outcome h.row
 count-acts (Some (Trial settings noise receivers)) old new outcome h = ap (λ wire. wire.count) h.wire
+count-acts (Some (Twice settings noise receivers)) old new outcome h = ap (λ wire. wire.count) h.wire
 count-acts (Some (Send address pages)) old new outcome h = count-send address pages _ _ outcome h.row
 
 pub count-runs : (words : List (List ℕ)) (old new : Outside) (result : Status) → Runs words old new result → new.objects.wire.count ≡ old.objects.wire.count

@@ -26,6 +26,8 @@ pub data Command : Type 0 where
   -- trial SETTINGS NOISE RECEIVER ..: prints the answers to the session of the input, and the pages that receivers, each of these capcodes,
   -- hear through this noise
   Trial : List ℕ → List ℕ → List (List ℕ) → Command
+  -- twice SETTINGS NOISE RECEIVER ..: the same, where the transmission is sent twice
+  Twice : List ℕ → List ℕ → List (List ℕ) → Command
   -- send ADDRESS PAGES: sends the pages of this file as a client, to the terminal at this address
   Send : List ℕ → List ℕ → Command
 
@@ -96,7 +98,7 @@ abbrev pub AreLine : List (List ℕ) → List ℕ → List ℕ → ℕ → Type 
 AreLine (a ∷ l ∷ s ∷ []) air line seed = (a ≡ air) × (l ≡ line) × IsName air × IsName line × (air ≢ line) × IsSeedWord s seed
 AreLine words air line seed = ⊥
 
--- what follows `station` and `snpp`, and what follows `trial`
+-- what follows `station` and `snpp`, and what follows `trial` and `twice`
 abbrev pub AreStation : List (List ℕ) → List ℕ → List ℕ → List ℕ → ℕ → Type 0
 AreStation (a ∷ s ∷ f ∷ n ∷ []) address settings air count =
     (a ≡ address) × (s ≡ settings) × (f ≡ air) × IsName address × IsName settings × IsName air × IsCountWord 1000 n count
@@ -132,6 +134,7 @@ IsCommand (name ∷ words) (Show air) = (name ≡ codes "show") × AreShow words
 IsCommand (name ∷ words) (Station address settings air count) = (name ≡ codes "station") × AreStation words address settings air count
 IsCommand (name ∷ words) (Snpp address settings air count) = (name ≡ codes "snpp") × AreStation words address settings air count
 IsCommand (name ∷ words) (Trial settings noise receivers) = (name ≡ codes "trial") × AreTrial words settings noise receivers
+IsCommand (name ∷ words) (Twice settings noise receivers) = (name ≡ codes "twice") × AreTrial words settings noise receivers
 IsCommand (name ∷ words) (Send address pages) = (name ≡ codes "send") × AreSend words address pages
 
 -- the words are this command's, or no command's

@@ -7,7 +7,7 @@ use Rattle.wires.specs.Left.{Left}
 use Rattle.wires.specs.Line.{Line}
 use Rattle.wires.specs.Stacked.{are_bytes}
 use Rattle.wires.specs.Written.{Written}
-use Rattle.station.specs.Commands.{Command, Load, One, Play, PlayLine, Send, Show, Snpp, Station, Trial, WriteLine}
+use Rattle.station.specs.Commands.{Command, Load, One, Play, PlayLine, Send, Show, Snpp, Station, Trial, Twice, WriteLine}
 use Rattle.station.specs.OneRun.{FitErr, FitRun}
 use Rattle.station.specs.Rows.{Objects, Outside, Streams}
 
@@ -54,6 +54,7 @@ HasFiles (Some (Show air)) old = IsTrue (old.shelf.there air)
 HasFiles (Some (Station address settings air count)) old = IsTrue (old.shelf.there settings) × (IsTrue (old.shelf.there air) ⊎ (IsTrue old.shelf.further × (length air ≤ longest_name)))
 HasFiles (Some (Snpp address settings air count)) old = IsTrue (old.shelf.there settings) × (IsTrue (old.shelf.there air) ⊎ (IsTrue old.shelf.further × (length air ≤ longest_name)))
 HasFiles (Some (Trial settings noise receivers)) old = IsTrue (old.shelf.there settings) × IsTrue (old.shelf.there noise)
+HasFiles (Some (Twice settings noise receivers)) old = IsTrue (old.shelf.there settings) × IsTrue (old.shelf.there noise)
 HasFiles (Some (Send address pages)) old = IsTrue (old.shelf.there pages) × (old.wire.opened < old.wire.count)
 
 -- For each command, steady objects with its files are fit for it wherever they have so much room or more.

@@ -4,7 +4,7 @@ use Rattle.station.specs.declared.outcomes.Outcome.{Outcome}
 use Rattle.sampler.specs.Runs.{sampled_bits}
 use Rattle.endings.specs.declared.statuses.Status.{Status}
 use Rattle.endings.specs.declared.statuses.Status.TheVariants.{Memory}
-use Rattle.station.specs.Commands.{AreCommand, Command, Load, One, Play, PlayLine, Send, Show, Snpp, Station, Trial, WriteLine}
+use Rattle.station.specs.Commands.{AreCommand, Command, Load, One, Play, PlayLine, Send, Show, Snpp, Station, Trial, Twice, WriteLine}
 use Rattle.station.specs.OneOutcome.{FitFile, FitLoad, FitOne, FitWriteLine, LeftAlike, bits_listened}
 use Rattle.station.specs.OneSend.{FitSend}
 use Rattle.station.specs.OneStation.{FitStation}
@@ -15,6 +15,7 @@ use Rattle.station.specs.Rows.{Acts, Objects, Outside, Runs, around}
 use Rattle.listening.specs.Table.{table_of}
 use Rattle.serving.specs.Protocols.{snpp, tap}
 use Rattle.endings.specs.Wrote.{FitFor}
+use Rattle.serving.specs.Sent.{once, twice}
 
 -- the objects are fit for a command
 abbrev pub FitRun : Option Command → Objects → Type 0
@@ -27,7 +28,8 @@ FitRun (Some (WriteLine air line seed)) old = FitWriteLine air line old.shelf
 FitRun (Some (Show air)) old = FitFile air old.shelf × FitFor old.streams.out (table_of (bits_listened air old.shelf))
 FitRun (Some (Station address settings air count)) old = FitStation tap settings air count (around old)
 FitRun (Some (Snpp address settings air count)) old = FitStation snpp settings air count (around old)
-FitRun (Some (Trial settings noise receivers)) old = FitTrial settings noise receivers old.shelf old.streams
+FitRun (Some (Trial settings noise receivers)) old = FitTrial once settings noise receivers old.shelf old.streams
+FitRun (Some (Twice settings noise receivers)) old = FitTrial twice settings noise receivers old.shelf old.streams
 FitRun (Some (Send address pages)) old = FitSend pages (around old)
 
 -- The output of errors is steady, and has room for the line about whatever the command may come to.

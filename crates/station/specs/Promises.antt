@@ -22,10 +22,13 @@ use Rattle.station.specs.declared.outcomes.Outcome.{Outcome}
 use Rattle.station.specs.declared.outcomes.Outcome.TheVariants.{Ended}
 use Rattle.endings.specs.declared.statuses.Status.TheVariants.{Done, FileFault, OutFault, WireFault}
 use Rattle.near.specs.NearAir.{AreUsable, joined}
+use Rattle.repeats.specs.Kept.{NearOrNone, kept_pages}
 use Rattle.listening.specs.PageLines.{pairs_heard}
+use Rattle.listening.specs.TwinLines.{pairs_heard_twice}
 use Rattle.serving.specs.Protocols.{IsSessionIn, Protocol, SessionIn, queued_in, snpp, tap}
 use Rattle.serving.specs.Served.{AllFrom, NextFit, Served, airs}
 use Rattle.station.specs.ReadFile.{Unreadable}
+use Rattle.serving.specs.Sent.{once, twice}
 use Rattle.serving.specs.Serving.{Around, AtAppendFault, AtFreshFault}
 use Rattle.station.specs.StationRows.{LeavesWireAndOut, ServedBy, StationRow, TrialRow, with_shelf}
 
@@ -55,10 +58,25 @@ pub record HearsTrial (receivers : List (List ℕ)) (pages : List Page) (air fli
 
 -- what a trial promises, where it came to Done
 abbrev pub TrialPromise : (settings noise : List ℕ) (receivers : List (List ℕ)) (input0 input : Left ℕ) (old new : Files) (out0 out : Written ℕ) (outcome : Outcome)
-    → TrialRow settings noise receivers input0 input old new out0 out outcome → Type 0
+    → TrialRow once settings noise receivers input0 input old new out0 out outcome → Type 0
 TrialPromise settings noise receivers input0 input old new out0 out (Ended Done) row =
     IsTrue old.tells → HearsTrial receivers row.tried.tries.tried.session.pages row.tried.tries.tried.air row.tried.tries.flips (bytes_bits (old.file noise))
 TrialPromise settings noise receivers input0 input old new out0 out outcome row = Unit {0}
+
+-- The bits that were heard of a transmission that was sent twice are those that were sent, each xor the bit of the noise in its place.
+-- Where each word of a copy is near or can't be read there, what each receiver, by its number, prints of each frame are exactly the accepted
+-- pages of its capcodes that have a clean copy of each word, and of the word after them, in order, each with its text.
+pub record HearsTwice (receivers : List (List ℕ)) (pages : List Page) (air flips noise : List Bool) : Type 0 where
+  pub bits : noisy_bits air flips ≡ noisy_bits air noise
+  pub kept : (near : NearOrNone pages (noisy_bits air flips)) (number f : ℕ) → 1 ≤ number → number ≤ most_receivers
+      → pages_of_frame f (shown_by number (pairs_heard_twice receivers (noisy_bits air flips))) ≡ pages_of_frame f (pages_in (has_of receivers number) (kept_pages pages (noisy_bits air flips) near))
+
+-- what `twice` promises, where it came to Done
+abbrev pub TwicePromise : (settings noise : List ℕ) (receivers : List (List ℕ)) (input0 input : Left ℕ) (old new : Files) (out0 out : Written ℕ) (outcome : Outcome)
+    → TrialRow twice settings noise receivers input0 input old new out0 out outcome → Type 0
+TwicePromise settings noise receivers input0 input old new out0 out (Ended Done) row =
+    IsTrue old.tells → HearsTwice receivers row.tried.tries.tried.session.pages row.tried.tries.tried.air row.tried.tries.flips (bytes_bits (old.file noise))
+TwicePromise settings noise receivers input0 input old new out0 out outcome row = Unit {0}
 
 -- the pages that sessions accepted, session by session
 abbrev pub accepted_in : {p : Protocol} {settings : Parts} {spare : ℕ} → List (Served p settings spare) → List (List Page)

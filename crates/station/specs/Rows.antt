@@ -11,20 +11,21 @@ use Rattle.wires.specs.Written.{Written}
 use Rattle.endings.specs.declared.statuses.Status.{Status}
 use Rattle.endings.specs.declared.statuses.Status.TheVariants.{BadSum, BadText, Done, InputFault, Memory, NotBlock, OutFault, Usage}
 use Rattle.station.specs.AlphaPage.{alpha_page}
-use Rattle.station.specs.Commands.{AreCommand, Command, Load, One, Play, PlayLine, Send, Show, Snpp, Station, Trial, WriteLine}
+use Rattle.station.specs.Commands.{AreCommand, Command, Load, One, Play, PlayLine, Send, Show, Snpp, Station, Trial, Twice, WriteLine}
 use Rattle.load.specs.Loads.{Loads}
 use Rattle.listening.specs.HeardFile.{HearsFile, Plays}
 use Rattle.listening.specs.HeardLine.{PlaysSamples}
 use Rattle.line_writer.specs.LineFile.{WritesLine}
 use Rattle.station.specs.LoneBlock.{HasText, IsLoneBlock, IsMarkedBlock}
 use Rattle.listening.specs.PageLines.{play_lines}
-use Rattle.station.specs.Promises.{HearNear, HearNearLine, StationPromise, TrialPromise}
+use Rattle.station.specs.Promises.{HearNear, HearNearLine, StationPromise, TrialPromise, TwicePromise}
 use Rattle.station.specs.Outcomes.{ErrWell, TellsOutcome}
 use Rattle.station.specs.declared.outcomes.Outcome.{Outcome}
 use Rattle.station.specs.declared.outcomes.Outcome.TheVariants.{Ended, Misread, Refused}
 use Rattle.station.specs.SendRows.{SendRow}
 use Rattle.serving.specs.Protocols.{Protocol, snpp, tap}
 use Rattle.serving.specs.Serving.{Around}
+use Rattle.serving.specs.Sent.{Times, once, twice}
 use Rattle.station.specs.StationRows.{StationRow, TrialRow}
 use Rattle.listening.specs.Table.{table_of}
 use Rattle.endings.specs.Wrote.{as_bits, AppendsBytes, Wrote, WroteFront}
@@ -150,10 +151,10 @@ pub record RunsStation (p : Protocol) (address settings air : List ℕ) (count :
   pub row : StationRow p address settings air count (around old) (around new) outcome
   pub input : new.streams.input ≡ old.streams.input
 
--- `trial`: the settings file was read, and the session of the input tried by its settings. Where reading the file failed, where it is
+-- `trial` and `twice`: the settings file was read, and the session of the input tried by its settings. Where reading the file failed, where it is
 -- refused, and where there was no memory, nothing else was touched. The wire is as before.
-pub record RunsTrial (settings noise : List ℕ) (receivers : List (List ℕ)) (old new : Objects) (outcome : Outcome) : Type 0 where
-  pub row : TrialRow settings noise receivers old.streams.input new.streams.input old.shelf new.shelf old.streams.out new.streams.out outcome
+pub record RunsTrial (times : Times) (settings noise : List ℕ) (receivers : List (List ℕ)) (old new : Objects) (outcome : Outcome) : Type 0 where
+  pub row : TrialRow times settings noise receivers old.streams.input new.streams.input old.shelf new.shelf old.streams.out new.streams.out outcome
   pub wire : new.wire ≡ old.wire
 
 -- `send`: the pages file was read, and a client sent its pages to the address. Where reading the file failed, where it is refused, and where there was
@@ -179,10 +180,11 @@ Acts (Some (WriteLine air line seed)) old new outcome = HasEndedSo (RunsWriteLin
 Acts (Some (Show air)) old new outcome = HasEndedSo (RunsShow air old new) outcome
 Acts (Some (Station address settings air count)) old new outcome = RunsStation tap address settings air count old new outcome
 Acts (Some (Snpp address settings air count)) old new outcome = RunsStation snpp address settings air count old new outcome
-Acts (Some (Trial settings noise receivers)) old new outcome = RunsTrial settings noise receivers old new outcome
+Acts (Some (Trial settings noise receivers)) old new outcome = RunsTrial once settings noise receivers old new outcome
+Acts (Some (Twice settings noise receivers)) old new outcome = RunsTrial twice settings noise receivers old new outcome
 Acts (Some (Send address pages)) old new outcome = RunsSend address pages old new outcome
 
--- What a command promises of the pages that receivers hear: `play` of the bits of its file, `play-line` of the samples in its file, `trial` of the session that it tried, and
+-- What a command promises of the pages that receivers hear: `play` of the bits of its file, `play-line` of the samples in its file, `trial` and `twice` of the session that they tried, and
 -- `station` and `snpp` of the transmissions that they sent. What `load` promises of its pages is part of its report.
 abbrev pub Promises : (command : Option Command) (old new : Objects) (outcome : Outcome) → Acts command old new outcome → Type 0
 Promises None old new outcome acts = Unit {0}
@@ -197,6 +199,8 @@ Promises (Some (Station address settings air count)) old new outcome acts = Stat
 Promises (Some (Snpp address settings air count)) old new outcome acts = StationPromise snpp address settings air count (around old) (around new) outcome acts.row
 Promises (Some (Trial settings noise receivers)) old new outcome acts =
     TrialPromise settings noise receivers old.streams.input new.streams.input old.shelf new.shelf old.streams.out new.streams.out outcome acts.row
+Promises (Some (Twice settings noise receivers)) old new outcome acts =
+    TwicePromise settings noise receivers old.streams.input new.streams.input old.shelf new.shelf old.streams.out new.streams.out outcome acts.row
 
 -- what all objects of a run tell
 pub record Outside : Type 0 where

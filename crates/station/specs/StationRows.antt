@@ -1,4 +1,4 @@
--- The commands `station`, `snpp` and `trial`, from their settings on.
+-- The commands `station`, `snpp`, `trial` and `twice`, from their settings on.
 use Rattle.std.specs.Prelude.{◌≡◌, ◌⊎◌, ℕ, ◌&&◌, Bool, List, IsTrue, Result, Ok, Err}
 use Rattle.bits.specs.Bits.{bytes_bits}
 use Rattle.subscribers.specs.Parts.{Parts}
@@ -10,8 +10,10 @@ use Rattle.station.specs.declared.outcomes.Outcome.TheVariants.{Ended, Misread, 
 use Rattle.endings.specs.declared.statuses.Status.{Status}
 use Rattle.endings.specs.declared.statuses.Status.TheVariants.{FileFault, Memory}
 use Rattle.listening.specs.PageLines.{play_lines}
+use Rattle.listening.specs.TwinLines.{twice_lines}
 use Rattle.station.specs.ReadFile.{HasNoSettings, KeepsFiles, ReadSettings, RefusedSettings, Unharmed, Unreadable}
 use Rattle.serving.specs.Protocols.{Protocol}
+use Rattle.serving.specs.Sent.{Times, once, twice}
 use Rattle.serving.specs.Serving.{Around, HasServed}
 use Rattle.serving.specs.StationState.{StationState}
 use Rattle.serving.specs.Trying.{TrialOutWell, Tries}
@@ -57,28 +59,33 @@ pub record AreFileBits (name : List ℕ) (shelf : Files) (bits : Left Bool) : Ty
 
 -- The session of an input was tried, with the bits of a file as noise, of which `rest` is left. No file changed, and the
 -- shelf is steady where the noise is. So is an output that was steady and had room for the lines of the trial.
-pub record TriesFile (parts : Parts) (spare : ℕ) (printed : List Bool → List ℕ) (noise : List ℕ) (input0 input : Left ℕ) (old new : Files) (out0 out : Written ℕ) (status : Status) : Type 0 where
+pub record TriesFile (times : Times) (parts : Parts) (spare : ℕ) (printed : List Bool → List ℕ) (noise : List ℕ) (input0 input : Left ℕ) (old new : Files) (out0 out : Written ℕ) (status : Status) : Type 0 where
   pub bits : Left Bool
   pub rest : Left Bool
   pub bits_are : AreFileBits noise old bits
-  pub tries : Tries parts spare printed input0 input bits rest out0 out status
+  pub tries : Tries times parts spare printed input0 input bits rest out0 out status
   pub kept : KeepsFiles old new
   pub faults : new.faults ≡ rest.faults
   pub steady : IsTrue rest.steady → IsTrue new.steady
-  pub out_well : TrialOutWell parts spare printed input0 bits out0 out status
+  pub out_well : TrialOutWell times parts spare printed input0 bits out0 out status
+
+-- what receivers print of bits that are a transmission once or twice
+abbrev pub lines_by : Times → List (List ℕ) → List Bool → List ℕ
+lines_by once receivers = play_lines receivers
+lines_by twice receivers = twice_lines receivers
 
 -- The settings were read, and the session of the input tried by them.
-pub record TriedBy (settings noise : List ℕ) (receivers : List (List ℕ)) (input0 input : Left ℕ) (old new : Files) (out0 out : Written ℕ) (status : Status) : Type 0 where
+pub record TriedBy (times : Times) (settings noise : List ℕ) (receivers : List (List ℕ)) (input0 input : Left ℕ) (old new : Files) (out0 out : Written ℕ) (status : Status) : Type 0 where
   pub parts : Parts
   pub shelf : Files
   pub read : ReadSettings settings old shelf parts
-  pub tried : TriesFile parts parts.cells (play_lines receivers) noise input0 input shelf new out0 out status
+  pub tried : TriesFile times parts parts.cells (lines_by times receivers) noise input0 input shelf new out0 out status
 
--- `trial`, by what it came to
-abbrev pub TrialRow : List ℕ → List ℕ → List (List ℕ) → Left ℕ → Left ℕ → Files → Files → Written ℕ → Written ℕ → Outcome → Type 0
-TrialRow settings noise receivers input0 input old new out0 out (Refused fault) = RefusedSettings settings old new fault × (input ≡ input0) × (out ≡ out0)
-TrialRow settings noise receivers input0 input old new out0 out (Misread fault) = ⊥
-TrialRow settings noise receivers input0 input old new out0 out (Ended Memory) = Unharmed settings old new × (input ≡ input0) × (out ≡ out0)
-TrialRow settings noise receivers input0 input old new out0 out (Ended FileFault) =
-    (Unreadable settings old new × (input ≡ input0) × (out ≡ out0)) ⊎ TriedBy settings noise receivers input0 input old new out0 out FileFault
-TrialRow settings noise receivers input0 input old new out0 out (Ended status) = TriedBy settings noise receivers input0 input old new out0 out status
+-- `trial` and `twice`, by what it came to
+abbrev pub TrialRow : Times → List ℕ → List ℕ → List (List ℕ) → Left ℕ → Left ℕ → Files → Files → Written ℕ → Written ℕ → Outcome → Type 0
+TrialRow times settings noise receivers input0 input old new out0 out (Refused fault) = RefusedSettings settings old new fault × (input ≡ input0) × (out ≡ out0)
+TrialRow times settings noise receivers input0 input old new out0 out (Misread fault) = ⊥
+TrialRow times settings noise receivers input0 input old new out0 out (Ended Memory) = Unharmed settings old new × (input ≡ input0) × (out ≡ out0)
+TrialRow times settings noise receivers input0 input old new out0 out (Ended FileFault) =
+    (Unreadable settings old new × (input ≡ input0) × (out ≡ out0)) ⊎ TriedBy times settings noise receivers input0 input old new out0 out FileFault
+TrialRow times settings noise receivers input0 input old new out0 out (Ended status) = TriedBy times settings noise receivers input0 input old new out0 out status

@@ -30,6 +30,8 @@ pub(crate) enum CommandLine<'a> {
     Snpp(StationLine<'a>),
     /// `trial SETTINGS NOISE RECEIVER ..`
     Trial(&'a str, &'a str, Receivers),
+    /// `twice SETTINGS NOISE RECEIVER ..`
+    Twice(&'a str, &'a str, Receivers),
     /// `send ADDRESS PAGES`
     Send(&'a str, &'a str),
 }
@@ -114,7 +116,7 @@ fn station_line(words: &[String]) -> Option<StationLine<'_>>
     })
 }
 
-/// Reads what follows `trial`.
+/// Reads what follows `trial` or `twice`.
 fn trial_line(words: &[String]) -> Option<(&str, &str, Receivers)>
     ensures { MatchOption result ((settings noise : List ℕ) (receivers : List (List ℕ)) → AreTrial (texts words.now) settings noise receivers → ⊥)
         (λ line. AreTrial (texts words.now) line.0.now line.1.now line.2) }
@@ -223,6 +225,12 @@ pub(crate) fn parse(words: &[String]) -> Option<CommandLine<'_>>
         },
         "trial" => match trial_line(rest) {
             Some((settings, noise, receivers)) => Some(CommandLine::Trial(
+                settings, noise, receivers,
+            )),
+            None => None,
+        },
+        "twice" => match trial_line(rest) {
+            Some((settings, noise, receivers)) => Some(CommandLine::Twice(
                 settings, noise, receivers,
             )),
             None => None,

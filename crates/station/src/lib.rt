@@ -8,7 +8,7 @@
 //!   capcodes of a word.
 //! - `outcomes`: what a command comes to, with `tell`, which puts the line about a status.
 //! - `one_page`: the command `one`: its one block, the text of the block's content, and the transmission.
-//! - `settings_runs`: the commands `station`, `snpp` and `trial`, which read settings.
+//! - `settings_runs`: the commands `station`, `snpp`, `trial` and `twice`, which read settings.
 //! - `pages_runs`: the command `send`, with its pages file.
 //! - `files`: reading a file into memory, and the settings that it gives.
 //! - `laws`: what one run comes to, the way from clients to receivers, and the room that a station takes.

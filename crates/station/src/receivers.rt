@@ -1,14 +1,18 @@
 //! The receivers that a command line lists.
 
-ghost use Rattle.std.specs.Prelude.{◌≡◌, ℕ, ◌<◌, ◌≤◌, ◌++◌, ◌∷◌, [], IfOk, List, OnOk, length, MatchOption, IsTrue, ◌↔◌};
+ghost use Rattle.std.specs.Prelude.{◌≡◌, ℕ, ◌<◌, ◌≤◌, ◌++◌, ◌∷◌, [], All, IfOk, List, OnOk, length, MatchOption, IsTrue, ◌↔◌};
 ghost use Rattle.listening.specs.PageLines.{group_lines, play_lines};
+ghost use Rattle.listening.specs.TwinLines.{twice_lines, twin_group_lines};
 ghost use Rattle.receiver.specs.Listeners.{StandsFor};
+ghost use Rattle.receiver.specs.Receivers.{most_receivers};
+ghost use Rattle.repeats.specs.TwinListeners.{StandsForTwice};
 ghost use Rattle.station.specs.Commands.{AreReceiverWords, texts};
-ghost use Rattle.station.specs.Pairs.{paired_with};
+ghost use Rattle.station.specs.Pairs.{paired_with, pairs_from};
 
 use crate::capcodes::{Capcodes, capcodes_of};
 use codeword::Capcode;
 use receiver::{Group, MOST_RECEIVERS};
+use repeats::TwinGroup;
 use std::alloc::Global;
 use std::marker::Model;
 use wires::Memory;
@@ -90,6 +94,28 @@ pub(crate) fn group_of(alloc: Global, receivers: &Receivers) -> Result<Group, Me
     ensures prints { IfOk result (λ g. group_lines g ≡ play_lines receivers.now) }
     ensures stands { IfOk result (λ g. StandsFor g []) }
 {
+    let Ok(pairs) = pairs_of(alloc, receivers) else {
+        return Err(Memory);
+    };
+    Group::new(alloc, &pairs)
+}
+
+/// A group of these receivers, with their numbers, that hears each transmission twice. Memory comes only where there was none.
+pub(crate) fn twin_group_of(alloc: Global, receivers: &Receivers) -> Result<TwinGroup, Memory>
+    ensures prints { IfOk result (λ g. twin_group_lines g ≡ twice_lines receivers.now) }
+    ensures stands { IfOk result (λ g. StandsForTwice g []) }
+{
+    let Ok(pairs) = pairs_of(alloc, receivers) else {
+        return Err(Memory);
+    };
+    TwinGroup::new(alloc, &pairs)
+}
+
+/// The number of each of these receivers, paired with each of its capcodes. Memory comes only where there was none.
+fn pairs_of(alloc: Global, receivers: &Receivers) -> Result<Vec<(u32, Capcode)>, Memory>
+    ensures pairs { IfOk result (λ pairs. pairs.items ≡ pairs_from 1 receivers.now) }
+    ensures numbers { IfOk result (λ pairs. All (λ pair. (1 ≤ pair.0) × (pair.0 ≤ most_receivers)) pairs.items) }
+{
     let mut pairs = Vec::new(alloc);
     let mut number = 1;
     for capcodes in receivers.as_slice() {
@@ -98,7 +124,7 @@ pub(crate) fn group_of(alloc: Global, receivers: &Receivers) -> Result<Group, Me
         };
         number += 1;
     }
-    Group::new(alloc, &pairs)
+    Ok(pairs)
 }
 
 /// Appends a receiver's number, paired with each of its capcodes. Memory comes only where there was none.

@@ -1,17 +1,18 @@
-//! The commands `station`, `snpp` and `trial`, which read their settings from a file.
+//! The commands `station`, `snpp`, `trial` and `twice`, which read their settings from a file.
 
 ghost use Rattle.std.specs.Prelude.{◌≡◌, []};
-ghost use Rattle.receiver.specs.Listeners.{StandsFor as HasHeard};
-ghost use Rattle.listening.specs.PageLines.{group_lines};
+ghost use Rattle.wires.specs.Fronts.{Grows};
+ghost use Rattle.serving.specs.Sent.{once, twice};
 ghost use Rattle.serving.specs.Protocols.{snpp, tap};
 ghost use Rattle.station.specs.StationRows.{OpensStation, StationRow, TrialRow, TriesFile};
 
 use crate::commands::StationLine;
 use crate::files::read_settings;
 use crate::outcomes::Outcome;
-use crate::receivers::{Receivers, group_of};
+use crate::receivers::{Receivers, group_of, twin_group_of};
 use endings::statuses::Status;
-use receiver::Group;
+use repeats::Recording;
+use serving::sending::{Hearing, SentTwice};
 use serving::session::Station;
 use std::alloc::Global;
 use wires::Memory;
@@ -83,7 +84,7 @@ pub(crate) fn run_trial<F: Shelf, I: Source, O: Sink>(
     input: &mut I,
     out: &mut O,
 ) -> Outcome
-    ensures { TrialRow settings.now noise.now receivers.now (I.state input.old) (I.state input.new) (F.state shelf.old) (F.state shelf.new) (O.state out.old) (O.state out.new) result }
+    ensures { TrialRow once settings.now noise.now receivers.now (I.state input.old) (I.state input.new) (F.state shelf.old) (F.state shelf.new) (O.state out.old) (O.state out.new) result }
 {
     let settings = match read_settings(alloc, shelf, settings) {
         Ok(settings) => settings,
@@ -98,19 +99,50 @@ pub(crate) fn run_trial<F: Shelf, I: Source, O: Sink>(
     Outcome::Ended(try_file(&mut station, noise, &mut group, shelf, input, out))
 }
 
+/// Runs `twice`.
+pub(crate) fn run_twice<F: Shelf, I: Source, O: Sink>(
+    alloc: Global,
+    settings: &str,
+    noise: &str,
+    receivers: &Receivers,
+    shelf: &mut F,
+    input: &mut I,
+    out: &mut O,
+) -> Outcome
+    ensures { TrialRow twice settings.now noise.now receivers.now (I.state input.old) (I.state input.new) (F.state shelf.old) (F.state shelf.new) (O.state out.old) (O.state out.new) result }
+{
+    let settings = match read_settings(alloc, shelf, settings) {
+        Ok(settings) => settings,
+        Err(outcome) => return outcome,
+    };
+    let Ok(group) = twin_group_of(alloc, receivers) else {
+        return Outcome::Ended(Status::Memory);
+    };
+    let Ok(recording) = Recording::new(alloc) else {
+        return Outcome::Ended(Status::Memory);
+    };
+    let Ok(mut station) = Station::new(alloc, settings) else {
+        return Outcome::Ended(Status::Memory);
+    };
+    let mut hearing = SentTwice { recording, group };
+    Outcome::Ended(try_file(&mut station, noise, &mut hearing, shelf, input, out))
+}
+
 /// Tries the session of the input, with the bits of a file as noise.
-fn try_file<F: Shelf, I: Source, O: Sink>(
+fn try_file<H: Hearing, F: Shelf, I: Source, O: Sink>(
     station: &mut Station,
     noise: &str,
-    group: &mut Group,
+    hearing: &mut H,
     shelf: &mut F,
     input: &mut I,
     out: &mut O,
 ) -> Status
-    requires { HasHeard group.old [] }
-    ensures { TriesFile station.old.settings station.old.settings.cells (group_lines group.old) noise.now (I.state input.old) (I.state input.new) (F.state shelf.old) (F.state shelf.new)
+    requires none { H.fresh hearing.old }
+    requires silent { H.prints hearing.old [] ≡ [] }
+    requires grows { Grows (H.prints hearing.old) }
+    ensures { TriesFile (H.times hearing.old) station.old.settings station.old.settings.cells (H.prints hearing.old) noise.now (I.state input.old) (I.state input.new) (F.state shelf.old) (F.state shelf.new)
         (O.state out.old) (O.state out.new) result }
 {
     let mut bits = ShelfBits::over(shelf, noise);
-    station.trial(input, &mut bits, group, out)
+    station.trial(input, &mut bits, hearing, out)
 }

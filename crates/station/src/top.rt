@@ -13,7 +13,7 @@ use crate::one_page::one;
 use crate::outcomes::{Outcome, tell_outcome};
 use crate::pages_runs::run_send;
 use crate::receivers::{Receivers, group_of};
-use crate::settings_runs::{run_snpp, run_station, run_trial};
+use crate::settings_runs::{run_snpp, run_station, run_trial, run_twice};
 use endings::statuses::Status;
 use line_writer::write_line;
 use listening::hearing::{play_file, play_samples, show_file};
@@ -60,6 +60,9 @@ fn act<W: Wire, F: Shelf, I: Source, O: Sink>(
         CommandLine::Snpp(line) => run_snpp(alloc, &line, wire, shelf, out),
         CommandLine::Trial(settings, noise, receivers) => {
             run_trial(alloc, settings, noise, &receivers, shelf, input, out)
+        }
+        CommandLine::Twice(settings, noise, receivers) => {
+            run_twice(alloc, settings, noise, &receivers, shelf, input, out)
         }
         CommandLine::Send(address, pages) => run_send(alloc, address, pages, wire, shelf, out),
     }

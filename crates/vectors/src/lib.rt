@@ -15,6 +15,7 @@
 //! - `stations`: runs of `station` that are to serve two connections.
 //! - `failing_calls`: runs in which each call of an object fails in turn, and `stands`, the tables of what they leave.
 //! - `trials`: runs of `trial`.
+//! - `repeated`: runs of `twice`.
 //! - `clients`: runs of `send`.
 //! - `long_calls`: a client and a terminal, whose session ends within a page.
 //! - `refusals`: words that are no command, files that are not there, and settings files that are refused.
@@ -51,6 +52,8 @@ mod receivers;
 mod refusals;
 #[cfg(test)]
 mod refused;
+#[cfg(test)]
+mod repeated;
 #[cfg(test)]
 mod runs;
 #[cfg(test)]

@@ -35,7 +35,7 @@ const THREE_WRONG: &[u32] = &[
 pub(crate) const ANSWERS: &[u8] = b"ID\nGO\nACK\nEND\n---\n";
 
 /// The same, and the line of its page.
-const HEARD: &[u8] = b"ID\nGO\nACK\nEND\n---\n01 0000008 A HELLO\n";
+pub(crate) const HEARD: &[u8] = b"ID\nGO\nACK\nEND\n---\n01 0000008 A HELLO\n";
 
 /// The same, and the lines of its page for the receivers 2 and 3.
 const HEARD_TWICE: &[u8] = b"ID\nGO\nACK\nEND\n---\n02 0000008 A HELLO\n03 0000008 A HELLO\n";

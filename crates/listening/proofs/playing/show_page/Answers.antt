@@ -9,23 +9,23 @@ use Rattle.listening.proofs.playing.show_page.Goals as goal
 pub returns-in-Err : goal.returns-in-Err
 returns-in-Err g c =
     lines_fail {E = Failed} (λ (number : ℕ). number_text number ++ line_of c.args.page.now.capcode c.args.page.now.function c.args.text.now)
-    (numbers_with (has_in c.args.group.now.holders) c.args.page.now.capcode) c.loop-k.k c.in-Some.number
+    (numbers_with (has_in (g.G.Showing.holders c.args.group.now)) c.args.page.now.capcode) c.loop-k.k c.in-Some.number
     (g.O.Sink.state c.args.out.now) (g.O.Sink.state c.loop-k.out) (g.O.Sink.state c.show_line.new.out) (tt {0}) _ _ refl c.in-Some.ensures c.loop-k.invariant c.in-Err.ensures
 
 pub returns-in_default : goal.returns-in_default
 returns-in_default g c =
     lines_all {E = Failed} (λ (number : ℕ). number_text number ++ line_of c.args.page.now.capcode c.args.page.now.function c.args.text.now)
-    (numbers_with (has_in c.args.group.now.holders) c.args.page.now.capcode) c.loop-k.k
+    (numbers_with (has_in (g.G.Showing.holders c.args.group.now)) c.args.page.now.capcode) c.loop-k.k
     (g.O.Sink.state c.args.out.now) (g.O.Sink.state c.loop-k.out) (tt {0}) c.in_default.ensures c.loop-k.invariant
 
 pub loop-k-preserved : goal.loop-k-preserved
 loop-k-preserved g c =
     lines_turn {E = Failed} (λ (number : ℕ). number_text number ++ line_of c.args.page.now.capcode c.args.page.now.function c.args.text.now)
-    (numbers_with (has_in c.args.group.now.holders) c.args.page.now.capcode) c.loop-k.k c.in-Some.number
+    (numbers_with (has_in (g.G.Showing.holders c.args.group.now)) c.args.page.now.capcode) c.loop-k.k c.in-Some.number
     (g.O.Sink.state c.args.out.now) (g.O.Sink.state c.loop-k.out) (g.O.Sink.state c.show_line.new.out) (tt {0}) _ c.in-Some.ensures c.loop-k.invariant c.in_default-show_line.ensures
 
 pub returns : goal.returns
 returns g c =
     lines_at_end {E = Failed} (λ (number : ℕ). number_text number ++ line_of c.args.page.now.capcode c.args.page.now.function c.args.text.now)
-    (has_in c.args.group.now.holders) c.args.page.now.capcode c.loop-k.k
+    (has_in (g.G.Showing.holders c.args.group.now)) c.args.page.now.capcode c.loop-k.k
     (g.O.Sink.state c.args.out.now) (g.O.Sink.state c.loop-k.out) (tt {0}) c.loop-k-test.false c.loop-k.invariant

@@ -7,4 +7,4 @@ use Rattle.listening.proofs.playing.show_page.Given as goal
 
 -- the lines of the first receivers are put
 abbrev pub invariant-loop-k : goal.invariant-loop-k
-invariant-loop-k g l = Puts {E = Failed} (g.O.Sink.state l.fn.out) (g.O.Sink.state l.out) (lines_for l.page.capcode l.page.function l.text (take l.k (numbers_with (has_in l.group.holders) l.page.capcode))) (Ok (tt {0}))
+invariant-loop-k g l = Puts {E = Failed} (g.O.Sink.state l.fn.out) (g.O.Sink.state l.out) (lines_for l.page.capcode l.page.function l.text (take l.k (numbers_with (has_in (g.G.Showing.holders l.group)) l.page.capcode))) (Ok (tt {0}))

@@ -1,31 +1,14 @@
-use Rattle.std.proofs.Common.{List, ℕ, ◌++◌, arith, get_or, length, ◌∙◌, ap}
-use Rattle.station.specs.Pairs.{paired_with}
-use Rattle.station.proofs.Pairs.{between, made_prints, pairs-all, pairs-turn}
+use Rattle.std.proofs.Common.{ℕ, List, ◌∙◌, subst, sym}
+use Rattle.std.specs.Prelude.{All, ◌≤◌}
+use Rattle.receiver.specs.Receivers.{most_receivers}
+use Rattle.station.proofs.Pairs.{made_prints}
 use Rattle.station.proofs.receivers.group_of.Goals as goal
 
-pub loop-capcodes-preserved : goal.loop-capcodes-preserved
-loop-capcodes-preserved c =
-    let same = c.as_slice-capcodes-items.ensures.value in
-    record {
-      number = omega (arith, c.loop-capcodes.invariant.number);
-      pairs = pairs-turn c.args.receivers.now c.loop-capcodes.pairs.items c.push_pairs.new.pairs.items c.loop-capcodes.capcodes-index c.loop-capcodes.number c.capcodes-item.result
-          (omega (arith, ap length same)) (c.capcodes-item.is ∙ ap (λ (rs : List (List ℕ)). get_or rs c.loop-capcodes.capcodes-index c.capcodes-item.result) same)
-          c.loop-capcodes.invariant.number c.loop-capcodes.invariant.pairs
-          (c.in-Ok.ensures ∙ ap (λ (cs : List ℕ). c.loop-capcodes.pairs.items ++ paired_with c.loop-capcodes.number cs) c.as_slice.ensures.value);
-    }
-
 pub new-requires : goal.new-requires
-new-requires c =
-    let same = c.as_slice-capcodes-items.ensures.value in
-    record {
-      numbers = between c.args.receivers.now c.deref.result.now
-          (c.deref.ensures.value ∙ pairs-all c.args.receivers.now c.loop-capcodes.pairs.items c.loop-capcodes.capcodes-index (omega (arith, ap length same)) c.loop-capcodes.invariant.pairs)
-          (omega (arith, ap length same, c.as_slice-capcodes-items.ensures.few));
-    }
+new-requires c = record {
+  numbers = subst (λ (pairs : List (ℕ × ℕ)). All (λ pair. (1 ≤ pair.0) × (pair.0 ≤ most_receivers)) pairs) (sym c.deref.ensures.value) c.in-Ok.ensures.numbers;
+}
 
 pub returns-clause-prints : goal.returns-clause-prints
 returns-clause-prints c =
-    let same = c.as_slice-capcodes-items.ensures.value in
-    made_prints c.new.result c.args.receivers.now c.deref.result.now
-    (c.deref.ensures.value ∙ pairs-all c.args.receivers.now c.loop-capcodes.pairs.items c.loop-capcodes.capcodes-index (omega (arith, ap length same)) c.loop-capcodes.invariant.pairs)
-    c.new.ensures.capcodes c.new.ensures.has
+    made_prints c.new.result c.args.receivers.now c.deref.result.now (c.deref.ensures.value ∙ c.in-Ok.ensures.pairs) c.new.ensures.capcodes c.new.ensures.has

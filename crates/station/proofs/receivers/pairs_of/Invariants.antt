@@ -1,6 +1,6 @@
 use Rattle.std.proofs.Common.{◌≡◌, ◌+◌, take}
-use Rattle.station.proofs.Pairs.{pairs_from}
-use Rattle.station.proofs.receivers.group_of.Given as goal
+use Rattle.station.specs.Pairs.{pairs_from}
+use Rattle.station.proofs.receivers.pairs_of.Given as goal
 
 -- the receivers so far have their pairs
 abbrev pub invariant-loop-capcodes : goal.invariant-loop-capcodes
