@@ -17,7 +17,7 @@ mod counts;
 mod draws;
 mod network;
 mod noises;
-mod report;
+pub mod report;
 pub mod running;
 mod sessions;
 

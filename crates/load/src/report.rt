@@ -16,7 +16,7 @@ const LONGEST_REPORT: usize = 6 * 29;
 
 /// What was counted.
 #[derive(Clone, Copy, Debug, PartialEq, Eq)]
-pub(crate) struct Report {
+pub struct Report {
     /// The pages that were accepted.
     pub(crate) pages: u64,
     /// The batches of their transmission.

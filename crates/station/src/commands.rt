@@ -1,10 +1,11 @@
 //! The command lines: docs/profile.md, "command lines".
 
-ghost use Rattle.std.specs.Prelude.{◌≡◌, ℕ, ◌≤◌, List, MatchOption};
-ghost use Rattle.station.specs.Commands.{AreCommand, AreLoad, AreOne, ArePlay, AreSend, AreShow, AreStation, AreLine, AreTrial, IsCountWord, IsSeedWord, texts};
+ghost use Rattle.std.specs.Prelude.{◌≡◌, ℕ, List, MatchOption};
+ghost use Rattle.station.specs.Commands.{AreCommand, AreOne, ArePlay, AreSend, AreShow, AreStation, AreLine, AreTrial, IsCountWord, IsSeedWord, texts};
 ghost use Rattle.station.specs.Meant.{meant};
 
 use crate::capcodes::capcode_of;
+use crate::load_words::{LoadRun, load_line};
 use crate::receivers::{Receivers, receivers_of};
 use codeword::Capcode;
 
@@ -31,15 +32,6 @@ pub(crate) enum CommandLine<'a> {
     Send(&'a str, &'a str),
 }
 
-/// What follows `load`: a seed, and a count of pages.
-#[derive(Clone, Copy)]
-pub(crate) struct LoadRun {
-    pub(crate) seed: u64,
-    pub(crate) count: u32,
-    ghost some: { 1 ≤ count },
-    ghost few: { count ≤ 10000 },
-}
-
 /// What follows `station`.
 #[derive(Clone, Copy)]
 pub(crate) struct StationLine<'a> {
@@ -52,11 +44,8 @@ pub(crate) struct StationLine<'a> {
 /// The most connections that a command line may ask for.
 const MOST_CONNECTIONS: u32 = 1000;
 
-/// The most pages.
-const MOST_PAGES: u32 = 10_000;
-
 /// The number from 1 to the most that a word of decimal digits says, without sign. None exactly where it says none.
-fn count_of(word: &str, most: u32) -> Option<u32>
+pub(crate) fn count_of(word: &str, most: u32) -> Option<u32>
     ensures { MatchOption result ((count : ℕ) → IsCountWord most word.now count → ⊥) (λ count. IsCountWord most word.now count) }
 {
     if word.starts_with('+') {
@@ -72,7 +61,7 @@ fn count_of(word: &str, most: u32) -> Option<u32>
 }
 
 /// The number below 2^64 that a word of decimal digits says, without sign. None exactly where it says none.
-fn seed_of(word: &str) -> Option<u64>
+pub(crate) fn seed_of(word: &str) -> Option<u64>
     ensures { MatchOption result ((seed : ℕ) → IsSeedWord word.now seed → ⊥) (λ seed. IsSeedWord word.now seed) }
 {
     if word.starts_with('+') {
@@ -161,22 +150,6 @@ fn one_line(words: &[String]) -> Option<Capcode>
         return None;
     };
     capcode_of(word.as_str())
-}
-
-/// Reads what follows `load`.
-fn load_line(words: &[String]) -> Option<LoadRun>
-    ensures { MatchOption result ((seed count : ℕ) → AreLoad (texts words.now) seed count → ⊥) (λ run. AreLoad (texts words.now) run.seed run.count) }
-{
-    let [seed, count] = words else {
-        return None;
-    };
-    let Some(seed) = seed_of(seed.as_str()) else {
-        return None;
-    };
-    let Some(count) = count_of(count.as_str(), MOST_PAGES) else {
-        return None;
-    };
-    Some(LoadRun { seed, count })
 }
 
 /// Reads what follows `show`.

@@ -4,7 +4,8 @@
 //! contract says what each status means for every object that it is handed. docs/profile.md, "commands", says what each command does.
 //!
 //! - `top`: `run`.
-//! - `commands`: the command lines, with `receivers`, the receivers that one lists, and `capcodes`, the capcodes of a word.
+//! - `commands`: the command lines, with `load_words`, the words of `load`, `receivers`, the receivers that one lists, and `capcodes`, the
+//!   capcodes of a word.
 //! - `outcomes`: what a command comes to, with `tell`, which puts the line about a status.
 //! - `one_page`: the command `one`: its one block, the text of the block's content, and the transmission.
 //! - `settings_runs`: the commands `station` and `trial`, which read settings.
@@ -20,6 +21,7 @@ mod capcodes;
 mod commands;
 mod files;
 pub mod laws;
+mod load_words;
 pub mod one_page;
 pub mod outcomes;
 mod pages_runs;
