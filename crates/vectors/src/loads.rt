@@ -92,7 +92,10 @@ const NO_RUNS: [(&str, &[&str]); 18] = [
     ("a count of no page", &["load", "1", "0"]),
     ("a count of 10,001 pages", &["load", "1", "10001"]),
     ("a count of 2^32 and one page", &["load", "1", "4294967297"]),
-    ("a count of 2^64 and one page", &["load", "1", "18446744073709551617"]),
+    (
+        "a count of 2^64 and one page",
+        &["load", "1", "18446744073709551617"],
+    ),
     ("a capital letter", &["Load", "1", "1"]),
 ];
 
