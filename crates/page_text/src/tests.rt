@@ -138,12 +138,7 @@ fn a_text_fits_or_has_its_first_fault(rt: HostRuntime) {
             b"A ",
             Ok(()),
         ),
-        (
-            "1,000 letters",
-            Function::Alpha,
-            &letters[..1_000],
-            Ok(()),
-        ),
+        ("1,000 letters", Function::Alpha, &letters[..1_000], Ok(())),
         (
             "1,001 letters",
             Function::Alpha,

@@ -125,7 +125,15 @@ fn sessions_of<R: Net + Drop>(
     let part = ONE_PAGE.get(..cut).unwrap_or(ONE_PAGE);
     let first = session_of(rt, alloc, &address, &mut station, &mut wire, part, manner)?;
     let whole = Manner::Stays;
-    let next = session_of(rt, alloc, &address, &mut station, &mut wire, ONE_PAGE, whole)?;
+    let next = session_of(
+        rt,
+        alloc,
+        &address,
+        &mut station,
+        &mut wire,
+        ONE_PAGE,
+        whole,
+    )?;
     Ok((first, next))
 }
 
@@ -143,7 +151,11 @@ fn a_caller_that_ends_in_a_block(rt: HostRuntime) -> Result<(), Fail> {
     for cut in [7, 12, 20, 25] {
         let (broken, whole) = sessions_of(&rt, rt.alloc(), cut, Manner::Ends)?;
         assert_eq!(rt; broken.end, SessionEnd::HungUp, "cut {cut}");
-        assert_eq!(rt; Some(broken.replies.as_slice()), REPLIES.get(..9), "cut {cut}");
+        assert_eq!(rt;
+            Some(broken.replies.as_slice()),
+            REPLIES.get(..9),
+            "cut {cut}"
+        );
         assert_eq!(rt; broken.pages, 0, "cut {cut}");
         assert!(rt; is_whole(&whole), "cut {cut}");
     }

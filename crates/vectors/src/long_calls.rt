@@ -94,7 +94,10 @@ fn answered(alloc: Global, said: &[u8]) -> Result<(Vec<u8>, u32), Fail> {
 fn a_session_ends_within_a_page(rt: HostRuntime) -> Result<(), Fail> {
     let (said, printed) = called(rt.alloc())?;
     let (replied, waiting) = answered(rt.alloc(), &said)?;
-    assert!(rt; replied == replies(rt.alloc())?, "what is replied isn't what was heard");
+    assert!(rt;
+        replied == replies(rt.alloc())?,
+        "what is replied isn't what was heard"
+    );
     assert!(rt; printed == lines(rt.alloc())?, "the lines of the pages");
     assert_eq!(rt; waiting as usize, SENT);
     Ok(())
