@@ -11,9 +11,7 @@ workspace() {
         # the libraries of the kit have no folder here
         [ -d "$top/crates/$name" ] && [ ! -d "$work/crates/$name" ] || continue
         mkdir -p "$work/crates/$name"
-        for part in src specs proofs; do
-            [ ! -d "$top/crates/$name/$part" ] || cp -r "$top/crates/$name/$part" "$work/crates/$name/"
-        done
+        cp -r "$top/crates/$name/src" "$top/crates/$name/specs" "$top/crates/$name/proofs" "$work/crates/$name/"
         grep "^$name:" "$top/crates.txt" >>"$work/crates.txt"
         workspace $(sed -n "s/^$name://p" "$top/crates.txt")
     done

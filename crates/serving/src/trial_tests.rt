@@ -4,7 +4,6 @@ use crate::session_tests::{ONE_PAGE, TWO, station};
 use codeword::Capcode;
 use endings::statuses::Status;
 use receiver::Group;
-use std::alloc::Global;
 use std::test::Fail;
 use wires::byte_bits::ByteBits;
 use wires::fakes::{MemorySink, MemorySource};
@@ -120,53 +119,24 @@ fn bits_left<N: BitSource>(noise: &mut N) -> Option<u32> {
     None
 }
 
-/// What a trial leaves: its status, what is printed, and how many bits of the noise are left.
-#[derive(Drop)]
-struct TrialLeft {
-    status: Status,
-    printed: Vec<u8>,
-    left: Option<u32>,
-}
-
-/// A receiver of capcode 8.
-fn receiver(alloc: Global) -> Result<Group, Fail> {
+#[test]
+fn a_noise_is_read_as_far_as_the_transmission(rt: HostRuntime) -> Result<(), Fail> {
     let Some(capcode) = Capcode::of(8) else {
         return Err(Fail::from("the capcode isn't usable"));
     };
-    match Group::new(alloc, &[(1, capcode)]) {
-        Ok(group) => Ok(group),
-        Err(_) => Err(Fail::from("there is no memory")),
-    }
-}
-
-/// A noise of so many bytes 0.
-fn noise_of(alloc: Global, size: usize, failing: &[u64]) -> Result<ByteBits<MemorySource>, Fail> {
-    let noise = vec![in alloc; 0u8; size]?;
-    Ok(ByteBits::over(MemorySource::new(alloc, &noise, 50, failing)?))
-}
-
-/// Tries the session of an input through a noise of so many bytes, whose calls fail.
-fn tried(alloc: Global, input: &[u8], noise: usize, failing: &[u64]) -> Result<TrialLeft, Fail> {
-    let mut station = station(alloc, TWO)?;
-    let mut group = receiver(alloc)?;
-    let mut noise = noise_of(alloc, noise, failing)?;
-    let mut input = MemorySource::new(alloc, input, 7, &[])?;
-    let mut out = MemorySink::new(alloc, 100, &[])?;
-    let status = station.trial(&mut input, &mut noise, &mut group, &mut out);
-    Ok(TrialLeft {
-        status,
-        printed: Vec::from_slice(alloc, out.bytes())?,
-        left: bits_left(&mut noise),
-    })
-}
-
-#[test]
-fn a_noise_is_read_as_far_as_the_transmission(rt: HostRuntime) -> Result<(), Fail> {
     for (name, input, noise, failing, status, printed, left) in &ROWS {
-        let tried = tried(rt.alloc(), *input, *noise, *failing)?;
-        assert_eq!(rt; tried.status, *status, "{name}");
-        assert_eq!(rt; tried.printed.as_slice(), *printed, "{name}");
-        assert_eq!(rt; tried.left, *left, "{name}");
+        let mut station = station(rt.alloc(), TWO)?;
+        let Ok(mut group) = Group::new(rt.alloc(), &[(1, capcode)]) else {
+            return Err(Fail::from("there is no memory"));
+        };
+        let noise = vec![in rt.alloc(); 0u8; *noise]?;
+        let mut noise = ByteBits::over(MemorySource::new(rt.alloc(), &noise, 50, *failing)?);
+        let mut input = MemorySource::new(rt.alloc(), *input, 7, &[])?;
+        let mut out = MemorySink::new(rt.alloc(), 100, &[])?;
+        let end = station.trial(&mut input, &mut noise, &mut group, &mut out);
+        assert_eq!(rt; end, *status, "{name}");
+        assert_eq!(rt; out.bytes(), *printed, "{name}");
+        assert_eq!(rt; bits_left(&mut noise), *left, "{name}");
     }
     Ok(())
 }

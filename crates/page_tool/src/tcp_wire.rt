@@ -134,10 +134,109 @@ impl<R: Net + Drop> Wire for TcpWire<R> {
 #[cfg(test)]
 mod tests {
     use super::TcpWire;
+    use station::{SessionEnd, Station};
+    use std::alloc::Global;
     use std::io::{Read, Write};
-    use std::net::{OpenListener, TcpStream};
+    use std::net::{Net, OpenListener, OpenStream, Shutdown, TcpStream};
     use std::test::Fail;
+    use subscribers::Settings;
     use wires::wire::Wire;
+
+    /// One subscriber.
+    const SETTINGS: &[u8] =
+        b"cells = 64\nsubscriber = [{id = \"5551234\", capcode = 8, class = \"alpha\"}]\n";
+
+    /// A logon, a block, and goodbye.
+    const ONE_PAGE: &[u8] = b"\r\x1BPG1\r\x025551234\rHELLO\r\x032?<\r\x04\r";
+
+    /// What is said to all of it.
+    const REPLIES: &[u8] = b"ID=\x06\r\x1B[p\r\x06\r\x1B\x04\r";
+
+    /// A station with one subscriber.
+    fn station(alloc: Global) -> Result<Station, Fail> {
+        let Ok(settings) = Settings::read(alloc, SETTINGS) else {
+            return Err(Fail::from("the settings are refused"));
+        };
+        match Station::new(alloc, settings) {
+            Ok(station) => Ok(station),
+            Err(_) => Err(Fail::from("there is no memory")),
+        }
+    }
+
+    /// A caller of this wire, with its first bytes sent.
+    fn caller<R: Net + Drop>(wire: &TcpWire<R>, first: &[u8]) -> Result<R::Stream, Fail> {
+        let listener = wire.listener.as_ref().ok_or("no listener")?;
+        let mut caller = TcpStream::connect(&wire.rt, listener.local_addr()?)?;
+        caller.write_all(first)?;
+        Ok(caller)
+    }
+
+    /// A whole session over a real connection: what the caller hears, how the session ends, and the page.
+    #[test]
+    fn a_session_of_the_station(rt: HostRuntime) -> Result<(), Fail> {
+        let mut station = station(rt.alloc())?;
+        let mut wire = TcpWire::over(&rt);
+        assert!(rt; wire.listen("127.0.0.1:0").is_ok());
+        let mut caller = caller(&wire, ONE_PAGE)?;
+        assert_eq!(rt; wire.next(), Ok(true));
+        assert_eq!(rt; station.session(&mut wire), SessionEnd::Ended);
+        let mut replies = Vec::new(rt.alloc());
+        caller.read_to_end(&mut replies)?;
+        assert_eq!(rt; replies.as_slice(), REPLIES);
+        assert_eq!(rt; station.pages(), 1);
+        assert_eq!(rt; station.report().pages, 1);
+        Ok(())
+    }
+
+    /// A caller ends in the middle of its block, wherever that is. The next one is served as ever.
+    #[test]
+    fn a_caller_that_ends_in_a_block(rt: HostRuntime) -> Result<(), Fail> {
+        let mut station = station(rt.alloc())?;
+        let mut wire = TcpWire::over(&rt);
+        assert!(rt; wire.listen("127.0.0.1:0").is_ok());
+        for (cut, pages) in [(7, 1), (12, 2), (20, 3), (25, 4)] {
+            let before = station.pages();
+            let mut broken = caller(&wire, &ONE_PAGE[..cut])?;
+            broken.shutdown(Shutdown::Write)?;
+            assert_eq!(rt; wire.next(), Ok(true));
+            assert_eq!(rt; station.session(&mut wire), SessionEnd::HungUp);
+            let mut replies = Vec::new(rt.alloc());
+            broken.read_to_end(&mut replies)?;
+            assert_eq!(rt; replies.as_slice(), &REPLIES[..9]);
+            assert_eq!(rt; station.pages(), before);
+            let mut whole = caller(&wire, ONE_PAGE)?;
+            assert_eq!(rt; wire.next(), Ok(true));
+            assert_eq!(rt; station.session(&mut wire), SessionEnd::Ended);
+            let mut replies = Vec::new(rt.alloc());
+            whole.read_to_end(&mut replies)?;
+            assert_eq!(rt; replies.as_slice(), REPLIES);
+            assert_eq!(rt; station.pages(), pages);
+        }
+        Ok(())
+    }
+
+    /// A caller that is gone in the middle of its block, so that nobody hears the replies. The session ends, hung up or lost, with
+    /// no page, and the next one is served as ever.
+    #[test]
+    fn a_caller_that_is_gone_in_a_block(rt: HostRuntime) -> Result<(), Fail> {
+        let mut station = station(rt.alloc())?;
+        let mut wire = TcpWire::over(&rt);
+        assert!(rt; wire.listen("127.0.0.1:0").is_ok());
+        let gone = caller(&wire, &ONE_PAGE[..20])?;
+        drop(gone);
+        assert_eq!(rt; wire.next(), Ok(true));
+        let end = station.session(&mut wire);
+        assert!(rt; end == SessionEnd::HungUp || end == SessionEnd::LineLost);
+        assert_eq!(rt; station.pages(), 0);
+        let mut whole = caller(&wire, ONE_PAGE)?;
+        assert_eq!(rt; wire.next(), Ok(true));
+        assert_eq!(rt; station.session(&mut wire), SessionEnd::Ended);
+        let mut replies = Vec::new(rt.alloc());
+        whole.read_to_end(&mut replies)?;
+        assert_eq!(rt; replies.as_slice(), REPLIES);
+        assert_eq!(rt; station.pages(), 1);
+        Ok(())
+    }
 
     /// A whole session on loopback, one step after another: the caller's bytes wait in the system.
     #[test]

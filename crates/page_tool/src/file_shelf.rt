@@ -127,7 +127,6 @@ impl<R: Files + Drop> Shelf for FileShelf<R> {
 #[cfg(test)]
 mod tests {
     use super::FileShelf;
-    use std::alloc::Global;
     use std::test::Fail;
     use wires::Failed;
     use wires::shelf::Shelf;
@@ -135,57 +134,21 @@ mod tests {
     /// A file of its own, in the folder where the tests run.
     const NAME: &str = "pocsag-file-shelf.tmp";
 
-    /// What is read of a fresh file; of one with seven bytes, from its front, from its sixth byte and behind its end; and of the same
-    /// made fresh again.
-    const CARRIED: [&[u8]; 5] = [b"", b"abcd", b"fg", b"", b""];
-
-    /// Makes the file fresh.
-    fn fresh<S: Shelf>(shelf: &mut S) -> Result<(), Fail> {
-        if shelf.fresh(NAME).is_err() {
-            return Err(Fail::from("it isn't made fresh"));
-        }
-        Ok(())
-    }
-
-    /// Appends to the file.
-    fn append<S: Shelf>(shelf: &mut S, piece: &[u8]) -> Result<(), Fail> {
-        if shelf.append(NAME, piece).is_err() {
-            return Err(Fail::from("nothing is appended"));
-        }
-        Ok(())
-    }
-
-    /// Reads four bytes of the file, or those that are left.
-    fn read<S: Shelf>(alloc: Global, shelf: &mut S, from: u64) -> Result<Vec<u8>, Fail> {
-        let mut into = [0; 4];
-        match shelf.read(NAME, from, &mut into) {
-            Ok(size) => Ok(Vec::from_slice(alloc, into.get(..size).unwrap_or(&[]))?),
-            Err(Failed) => Err(Fail::from("it isn't read")),
-        }
-    }
-
-    /// Makes the file and reads it as the table says.
-    fn reads<S: Shelf>(alloc: Global, shelf: &mut S) -> Result<Vec<Vec<u8>>, Fail> {
-        let mut reads = Vec::new(alloc);
-        fresh(shelf)?;
-        reads.push(read(alloc, shelf, 0)?)?;
-        append(shelf, b"abc")?;
-        append(shelf, b"defg")?;
-        for from in [0, 5, 9] {
-            reads.push(read(alloc, shelf, from)?)?;
-        }
-        fresh(shelf)?;
-        reads.push(read(alloc, shelf, 0)?)?;
-        Ok(reads)
-    }
-
     #[test]
     fn files_carry_their_bytes(rt: HostRuntime) -> Result<(), Fail> {
-        let reads = reads(rt.alloc(), &mut FileShelf::over(&rt, rt.alloc()))?;
-        assert_eq!(rt; reads.len(), CARRIED.len());
-        for (read, bytes) in reads.iter().zip(CARRIED) {
-            assert_eq!(rt; read.as_slice(), bytes);
-        }
+        let mut shelf = FileShelf::over(&rt, rt.alloc());
+        let mut into = [0; 4];
+        assert!(rt; shelf.fresh(NAME).is_ok());
+        assert_eq!(rt; shelf.read(NAME, 0, &mut into), Ok(0));
+        assert!(rt; shelf.append(NAME, b"abc").is_ok());
+        assert!(rt; shelf.append(NAME, b"defg").is_ok());
+        assert_eq!(rt; shelf.read(NAME, 0, &mut into), Ok(4));
+        assert_eq!(rt; into, *b"abcd");
+        assert_eq!(rt; shelf.read(NAME, 5, &mut into), Ok(2));
+        assert_eq!(rt; &into[..2], b"fg".as_slice());
+        assert_eq!(rt; shelf.read(NAME, 9, &mut into), Ok(0));
+        assert!(rt; shelf.fresh(NAME).is_ok());
+        assert_eq!(rt; shelf.read(NAME, 0, &mut into), Ok(0));
         std::fs::remove_file(&rt, NAME)?;
         Ok(())
     }
