@@ -9,6 +9,7 @@ in docs/performance.md, between the lines `<!-- table gate -->` and `<!-- end --
 
 `rt ci` keeps what it proved, and a crate that was kept costs nothing. So the times of a crate are noted when it is proved, in the file
 that the variable GATE_TIMES names, or else in `gate_times.json` in the folder for temporary files. The table shows what is noted there.
+They are noted anew at each line of `rt ci`, so a run that ends early leaves what was measured until then.
 
 Crates are proved side by side, so a time is processor time: what the prover's processes had used when they were last looked at, which is
 done five times a second. A process that ends between two looks is counted short by as much. The prover's processes are told apart by
@@ -72,7 +73,7 @@ class Watch:
 
     def sums(self):
         found = {}
-        for key, seconds in self.used.items():
+        for key, seconds in list(self.used.items()):
             if self.names.get(key):
                 crate, kind = self.names[key]
                 found.setdefault(crate, dict.fromkeys(KINDS, 0.0))[kind] += seconds
@@ -91,6 +92,18 @@ def crates():
 def noted():
     """The times that earlier runs noted, by crate."""
     return json.loads(TIMES.read_text()) if TIMES.exists() else {}
+
+
+def note(before, sums, proved):
+    """Notes the times of this run over those of earlier ones, and returns both."""
+    times = {name: dict(used) for name, used in before.items()}
+    for name, used in sums.items():
+        if name in proved:
+            times[name] = used
+        elif name in times:  # edits that are new of a crate that was kept
+            times[name]["edits"] += used["edits"]
+    TIMES.write_text(json.dumps(times))
+    return times
 
 
 def table(times):
@@ -126,23 +139,17 @@ def main():
 
     watcher = threading.Thread(target=watching)
     watcher.start()
-    proved = set()
+    before, proved = noted(), set()
     for line in gate.stdout:
         at = time.monotonic() - start
         print(f"{clock(at):>6} {line}", end="", file=sys.stderr, flush=True)
         if match := re.match(r"rt: (\w+) proved$", line):
             proved.add(match[1])
+        note(before, watch.sums(), proved)
     status = gate.wait()
     ended.set()
     watcher.join()
-    times = noted()
-    for name, used in watch.sums().items():
-        if name in proved:
-            times[name] = used
-        elif name in times:  # edits that are new of a crate that was kept
-            times[name]["edits"] += used["edits"]
-    TIMES.write_text(json.dumps(times))
-    text = table(times)
+    text = table(note(before, watch.sums(), proved))
     print(f"{text}\n{line_of_machine}")
     if status == 0 and "--write" in words:
         DOCUMENT.write_text(MARKED.sub(lambda mark: f"{mark[1]}{text}\n{line_of_machine}\n{mark[2]}", DOCUMENT.read_text()))

@@ -30,6 +30,8 @@ ROWS = [
     ("words", "words that are no command", 0, 10),
     ("one", "`one`", 0, 12),
     ("play", "`play`", 1, 15),
+    ("line", "`line`", 2, 20),
+    ("sampled", "`play-line`", 1, 15),
     ("show", "`show`", 1, 10),
     ("station", "`station`, AIR not there", 2, 100),
     ("taken", "`station` at an address that is taken, AIR there", 1, 100),
@@ -76,6 +78,7 @@ class Case:
         os.makedirs(self.folder)
         self.connected = []
         given = {"air": b"\xaa" * 72 + bytes.fromhex("7CD215D800003B49C14387B8C00004DC") + 13 * bytes.fromhex("7A89C197")}
+        given["samples"] = b"".join(bytes(0xFF if byte >> place & 1 else 0 for place in range(7, -1, -1)) for byte in given["air"])
         for name, example in (("settings", "s1.toml"), ("pages", "pages.txt"), ("noise", "two.noise")):
             with open(os.path.join(examples, example), "rb") as file:
                 given[name] = file.read()
@@ -104,6 +107,8 @@ class Case:
             "words": ["show", self.path("air"), "8"],
             "one": ["one", "8"],
             "play": ["play", self.path("air"), "8", "9"],
+            "line": ["line", self.path("air"), self.path("line"), "1"],
+            "sampled": ["play-line", self.path("samples"), "8", "9"],
             "show": ["show", self.path("air")],
             "station": station,
             "taken": station,
