@@ -1,8 +1,8 @@
 -- The cells of a file's settings are at most 65,536.
 use Rattle.std.proofs.Common.{◌≡◌, ℕ, ◌≤◌, Bool, true, false, cond, nat_le, nat_lt, ℤ, pos, negsuc, List, length, Option, Some, None, Result, Ok, Err, refl, ap, arith}
-use Rattle.std.proofs.lemmas.Grind.{nat_tests}
+use Rattle.std.proofs.lemmas.Bool.Decides.{nat_tests}
 use Rattle.toml.specs.Data.{Members}
-use Rattle.subscribers.specs.Entries.{ids_of}
+use Rattle.subscribers.specs.Entries.{ids_of, is_between}
 use Rattle.subscribers.specs.Form.{Form, form_of}
 use Rattle.subscribers.specs.Parts.{Ids, Parts}
 use Rattle.subscribers.specs.Settings.{cells_in_range, is_password_or_none, most_cells, most_entries, most_settings_bytes, of_form, of_tree, parts_of, settings_of, settings_of_form, tree_of, with_cells}

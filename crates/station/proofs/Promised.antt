@@ -15,7 +15,8 @@ use Rattle.air.specs.Air.{IsAir}
 use Rattle.air.specs.Near.{IsAirs, Near}
 use Rattle.receiver.specs.Heard.{heard, with_text}
 use Rattle.receiver.specs.Listeners.{is_one_of}
-use Rattle.receiver.specs.Shown.{has_of, pages_of_frame}
+use Rattle.receiver.specs.Shown.{has_of, pages_in, pages_of_frame}
+use Rattle.receiver.specs.Stretches.{first_stretches, stretches}
 use Rattle.receiver.proofs.Shown.{shown_by-shown}
 use Rattle.wires.specs.Files.{Files}
 use Rattle.wires.specs.Left.{Left}
@@ -29,10 +30,9 @@ use Rattle.station.proofs.FewCells.{few_cells}
 use Rattle.station.proofs.Pairs.{has-listed}
 use Rattle.near.proofs.NearAir.{near_air}
 use Rattle.page_pool.specs.Cells.{cells_of}
-use Rattle.repeats.specs.Kept.{SlotsAreHeld}
-use Rattle.repeats.specs.Twin.{held_slots, heard_twice}
+use Rattle.repeats.specs.Kept.{NearOrNone, kept_pages}
+use Rattle.repeats.specs.Twin.{held_slots, heard_twice, twins}
 use Rattle.repeats.proofs.Kept.{kept_frames}
-use Rattle.scheduler.specs.Slots.{IsSchedule}
 use Rattle.serving.proofs.FewWords.{slots_by_cells}
 use Rattle.serving.specs.Sent.{once, twice}
 use Rattle.serving.proofs.WholeSessions.{turn-wholes}
@@ -136,11 +136,14 @@ trial_promise settings noise receivers input0 input old new out0 out (Ended stat
 
 -- ---- a trial whose transmission is sent twice
 
--- a transmission of so few cells has no more slots than are held
-slots_are_held : (pages : List Page) → sum_by cells_of pages ≤ 65536 → SlotsAreHeld pages
-unfolding held_slots
-slots_are_held [] le slots are = let none = nothing slots are in omega arith
-slots_are_held (page ∷ pages) le slots are = let n = slots_by_cells page pages slots 65536 are le in omega (arith, n)
+-- the kept pages of so few cells: their transmission has no more slots than are held
+kept_twice : (listens : ℕ → Bool) (pages : List Page) (bits : List Bool) → AreUsable listens → All IsAcceptable pages → sum_by cells_of pages ≤ 65536 → (near : NearOrNone pages bits)
+    → (set : ℕ → Bool) (f : ℕ) → ((capcode : ℕ) → set capcode ≡ true → listens capcode ≡ true)
+    → pages_of_frame f (pages_in set (map with_text (heard_twice listens bits))) ≡ pages_of_frame f (pages_in set (kept_pages pages bits near))
+unfolding held_slots stretches first_stretches twins
+kept_twice listens [] bits u h le near set f a = ap (λ (none : List Bool). pages_of_frame f (pages_in set (map with_text (heard_twice listens none)))) near
+kept_twice listens (page ∷ pages) bits u h le near set f a =
+    kept_frames listens (page ∷ pages) bits u h (λ slots are. let n = slots_by_cells page pages slots 65536 are le in omega (arith, n)) near set f a
 
 hears_twice : (receivers : List (List ℕ)) (pages : List Page) (air flips noise : List Bool) → AreUsable (is_one_of (concat receivers)) → All IsAcceptable pages → sum_by cells_of pages ≤ 65536
     → noisy_bits air flips ≡ noisy_bits air noise → HearsTwice receivers pages air flips noise
@@ -150,7 +153,7 @@ hears_twice receivers pages air flips noise u h few e = record {
       let has = has_of receivers in
       let heard = noisy_bits air flips in
       ap (pages_of_frame f) (shown_by-shown has number (map with_text (heard_twice (is_one_of (concat receivers)) heard)) some most)
-      ∙ kept_frames (is_one_of (concat receivers)) pages heard u h (slots_are_held pages few) near (has number) f (λ c held. has-listed receivers number c held);
+      ∙ kept_twice (is_one_of (concat receivers)) pages heard u h few near (has number) f (λ c held. has-listed receivers number c held);
 }
 
 twice_promise : (settings noise : List ℕ) (receivers : List (List ℕ)) (input0 input : Left ℕ) (old new : Files) (out0 out : Written ℕ) (outcome : Outcome)

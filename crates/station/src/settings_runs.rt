@@ -1,6 +1,8 @@
 //! The commands `station`, `snpp`, `trial` and `twice`, which read their settings from a file.
 
-ghost use Rattle.std.specs.Prelude.{◌≡◌, []};
+ghost use Rattle.std.specs.Prelude.{◌≡◌, [], IfOk};
+ghost use Rattle.listening.specs.TwinLines.{twice_lines, twin_group_lines};
+ghost use Rattle.repeats.specs.TwinListeners.{StandsForTwice};
 ghost use Rattle.wires.specs.Fronts.{Grows};
 ghost use Rattle.serving.specs.Sent.{once, twice};
 ghost use Rattle.serving.specs.Protocols.{snpp, tap};
@@ -115,17 +117,27 @@ pub(crate) fn run_twice<F: Shelf, I: Source, O: Sink>(
         Ok(settings) => settings,
         Err(outcome) => return outcome,
     };
-    let Ok(group) = twin_group_of(alloc, receivers) else {
-        return Outcome::Ended(Status::Memory);
-    };
-    let Ok(recording) = Recording::new(alloc) else {
+    let Ok(mut hearing) = sent_twice_to(alloc, receivers) else {
         return Outcome::Ended(Status::Memory);
     };
     let Ok(mut station) = Station::new(alloc, settings) else {
         return Outcome::Ended(Status::Memory);
     };
-    let mut hearing = SentTwice { recording, group };
     Outcome::Ended(try_file(&mut station, noise, &mut hearing, shelf, input, out))
+}
+
+/// A transmission that is sent twice to these receivers. Memory comes only where there was none.
+fn sent_twice_to(alloc: Global, receivers: &Receivers) -> Result<SentTwice, Memory>
+    ensures prints { IfOk result (λ s. twin_group_lines s.group ≡ twice_lines receivers.now) }
+    ensures stands { IfOk result (λ s. StandsForTwice s.group []) }
+{
+    let Ok(group) = twin_group_of(alloc, receivers) else {
+        return Err(Memory);
+    };
+    let Ok(recording) = Recording::new(alloc) else {
+        return Err(Memory);
+    };
+    Ok(SentTwice { recording, group })
 }
 
 /// Tries the session of the input, with the bits of a file as noise.
