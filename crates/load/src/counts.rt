@@ -3,6 +3,7 @@
 ghost use Rattle.std.specs.Prelude.{◌≡◌, ◌+◌, ◌<◌, ◌≤◌, ◌*◌, ◌^◌, ◌++◌, Bool, List, Some, length, sum};
 ghost use Rattle.bits.specs.Bits.{word_bits};
 ghost use Rattle.receiver.specs.Listeners.{ready_answer};
+ghost use Rattle.page_text.specs.declared.lines.TheConstants.{LONGEST_LINE};
 ghost use Rattle.load.specs.Counting.{HasCounted, HasLines, ready_line};
 
 use page_text::lines::written;
