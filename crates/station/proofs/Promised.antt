@@ -168,7 +168,7 @@ twice_promise settings noise receivers input0 input old new out0 out (Ended Done
     let within = pages_within row.parts row.parts.cells s.taken s.session s.session_is in
     let most = few_cells (old.file settings) row.parts are in
     hears_twice receivers s.session.pages s.air row.tried.tries.flips (bytes_bits (old.file noise)) u
-    (are_acceptable (old.file settings) row.parts row.parts.cells s.taken s.session are s.session_is) (omega (arith, within, most))
+    (are_acceptable tap (old.file settings) row.parts row.parts.cells s.taken s.session are s.session_is) (omega (arith, within, most))
     (row.tried.tries.of_noise b.0 ∙ ap (noisy_bits s.air) b.1)
 twice_promise settings noise receivers input0 input old new out0 out (Ended Usage) row u = tt
 twice_promise settings noise receivers input0 input old new out0 out (Ended status) row u = tt
