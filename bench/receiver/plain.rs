@@ -35,13 +35,16 @@ impl Code {
         Code { low: table(10), middle: table(17), high: table(24), patterns }
     }
 
+    pub fn remainder(&self, bits: u32) -> u32 {
+        bits & 0x3FF
+            ^ self.low[(bits >> 10 & 0x7F) as usize]
+            ^ self.middle[(bits >> 17 & 0x7F) as usize]
+            ^ self.high[(bits >> 24) as usize]
+    }
+
     pub fn correct(&self, w: u32) -> Option<u32> {
         let heard = w >> 1;
-        let remainder = heard & 0x3FF
-            ^ self.low[(heard >> 10 & 0x7F) as usize]
-            ^ self.middle[(heard >> 17 & 0x7F) as usize]
-            ^ self.high[(heard >> 24) as usize];
-        let sent = heard ^ self.patterns[remainder as usize];
+        let sent = heard ^ self.patterns[self.remainder(heard) as usize];
         let v = sent << 1 | sent.count_ones() & 1;
         if (w ^ v).count_ones() <= 2 { Some(v) } else { None }
     }

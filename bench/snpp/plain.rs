@@ -193,7 +193,7 @@ impl Snpp {
         };
         let text = match self.text.get() {
             Some(text) => text,
-            None if to.alpha => return Answer::Missing,
+            None if to.function == 3 => return Answer::Missing,
             None => b"",
         };
         let answer = if !fits(*to, text) {
@@ -234,7 +234,7 @@ fn fed(session: &[u8], settings: &BTreeMap<Vec<u8>, Subscriber>, pool: &mut Pool
 fn main() {
     let to = Subscriber {
         capcode: 8,
-        alpha: true,
+        function: 3,
     };
     let settings = BTreeMap::from([(b"5551234".to_vec(), to)]);
     for (letters, count) in [(5, 31_200), (241, 3_700)] {

@@ -2,7 +2,7 @@
 
 mod pool;
 #[path = "../block_reader/scanner.rs"]
-mod scanner;
+pub mod scanner;
 
 pub use pool::{NONE, Pool, Subscriber};
 use pool::fits;
@@ -161,7 +161,7 @@ fn fed(session: &[u8], settings: &BTreeMap<Vec<u8>, Subscriber>, pool: &mut Pool
 }
 
 fn main() {
-    let settings = BTreeMap::from([(b"5551234".to_vec(), Subscriber { capcode: 8, alpha: true })]);
+    let settings = BTreeMap::from([(b"5551234".to_vec(), Subscriber { capcode: 8, function: 3 })]);
     for (letters, count) in [(5, 49_900), (241, 3_900)] {
         let session = session(letters, count);
         for _ in 0..9 {

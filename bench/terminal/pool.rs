@@ -3,10 +3,11 @@
 const CELL: usize = 32;
 pub const NONE: u32 = u32::MAX;
 
+/// The function is that of POCSAG: 0 numeric, 1 and 2 tones, 3 alphanumeric.
 #[derive(Clone, Copy)]
 pub struct Subscriber {
     pub capcode: u32,
-    pub alpha: bool,
+    pub function: u32,
 }
 
 /// As the proved one keeps it, though nothing is read back here.
@@ -16,7 +17,7 @@ pub struct Head {
     pub address: Option<Subscriber>,
     pub length: u32,
     before: u32,
-    after: u32,
+    pub after: u32,
     peer_before: u32,
     peer_after: u32,
 }
@@ -139,9 +140,9 @@ impl Pool {
 
 /// Whether a text fits the class of a subscriber.
 pub fn fits(to: Subscriber, text: &[u8]) -> bool {
-    if to.alpha {
-        text.len() <= 1000 && text.iter().all(|c| matches!(c, 0x20..=0x7E | b'\r' | b'\n'))
-    } else {
-        text.is_empty()
+    match to.function {
+        0 => text.len() <= 1000 && text.iter().all(|c| b"0123456789*U -]["[..].contains(c)),
+        3 => text.len() <= 1000 && text.iter().all(|c| matches!(c, 0x20..=0x7E | b'\r' | b'\n')),
+        _ => text.is_empty(),
     }
 }

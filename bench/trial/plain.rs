@@ -110,7 +110,7 @@ impl Sending {
         } else {
             Before::InRun(frame, 0)
         };
-        checks.codeword(to.capcode / 8 << 2 | if to.alpha { 3 } else { 1 })
+        checks.codeword(to.capcode / 8 << 2 | to.function)
     }
 
     /// A bit of the text, each character's least significant bit first, and 0 behind it.
@@ -158,7 +158,7 @@ fn line(answer: Answer) -> &'static [u8] {
 }
 
 fn answer_input(out: &mut File, pool: &mut Pool) -> std::io::Result<()> {
-    let settings = BTreeMap::from([(b"5551234".to_vec(), Subscriber { capcode: 8, alpha: true })]);
+    let settings = BTreeMap::from([(b"5551234".to_vec(), Subscriber { capcode: 8, function: 3 })]);
     let mut input = std::io::stdin().lock();
     let mut terminal = Terminal::new();
     let mut buffer = [0; 4096];
