@@ -26,8 +26,6 @@ mod session_tests;
 mod snpp_tests;
 mod talking;
 pub mod trial;
-#[cfg(test)]
-mod trial_tests;
 
 pub use sending::SentTwice;
 pub use session::{SessionEnd, Station};
