@@ -1,21 +1,20 @@
 -- The samples of bits, one bit after another.
-use Rattle.std.proofs.Common.{◌≡◌, ◌≢◌, ℕ, zero, suc, ◌+◌, ◌-◌, ◌*◌, ◌%◌, ◌<◌, ◌≤◌, ◌||◌, nat_lt, Bool, true, false, List, [], ◌∷◌, ◌++◌, length, replicate, Option, Result, Some, None, Ok, Err, IsTrue, refl, sym, ◌∙◌, ap, subst, arith, append-nil, append_assoc}
+use Rattle.std.proofs.Common.{◌≡◌, ◌≢◌, ℕ, suc, ◌+◌, ◌-◌, ◌*◌, ◌%◌, ◌<◌, ◌≤◌, Bool, true, false, List, [], ◌∷◌, ◌++◌, length, replicate, Option, Result, Some, None, Ok, Err, IsTrue, refl, sym, ◌∙◌, ap, subst, arith, append-nil, append_assoc}
 use Rattle.std.proofs.lemmas.List.{length-replicate, replicate-append-replicate}
 use Rattle.std.specs.Bool.{beq}
 use Rattle.std.specs.Prelude.{if◌then◌else◌, OnOk}
 use Rattle.rand_pcg.specs.Lcg.{Lcg, started, increment_of}
 use Rattle.rand_pcg.specs.Pcg.{multiplier_64, pcg32}
 use Rattle.wires.specs.Ahead.{Fills}
-use Rattle.wires.specs.Left.{Left, TakesOne, TakesPiece, Pops}
-use Rattle.wires.proofs.Causes.{cause_ok, cause_none, cause_then}
+use Rattle.wires.specs.Left.{Left, TakesOne, Pops}
+use Rattle.wires.proofs.Causes.{cause_ok, cause_then}
 use Rattle.wires.proofs.Written.{still}
 use Rattle.sampler.specs.Runs.{Run, with_bit, runs, Apart}
-use Rattle.sampler.specs.Stacked.{ahead_bits, ahead_of, moved, sampling_over}
+use Rattle.sampler.specs.Stacked.{ahead_bits, ahead_of, moved, samples_of, sampling_over}
 use Rattle.sampler.specs.Strayed.{edge_after, strayed, strayed_runs}
 use Rattle.sampler.specs.declared.sampling.Ahead.{Ahead}
 use Rattle.sampler.specs.declared.sampling.Ahead.TheVariants.{Unread, Bit, End}
 use Rattle.sampler.proofs.Line.{runs-apart}
-use Rattle.sampler.proofs.Reading.{lt-some}
 use Rattle.sampler.proofs.Runs.{run, beq-is}
 
 -- one bit more before the runs
@@ -211,23 +210,19 @@ Fills-then a b c p q v r h k = record {
   lent = k.lent ∙ h.lent;
 }
 
-pending_there : (n m : ℕ) (v b : Bool) (p : List Bool) → replicate n v ≡ p ++ replicate m v → p ≢ [] → IsTrue (nat_lt 0 n || b)
-pending_there zero m v b [] e h = absurd (h refl)
-pending_there zero m v b (x ∷ p) e h = cc
-pending_there (suc n) m v b p e h = rw (lt-some n) refl
+-- some samples of a bit are given out, behind others
+pub parted : (pending n : ℕ) (value : Bool) (samples samples' : List Bool) → n ≤ pending → samples' ≡ samples ++ replicate n value → samples ++ replicate pending value ≡ samples' ++ replicate (pending - n) value
+parted pending n value samples samples' le is =
+    let e : n + (pending - n) ≡ pending = omega (arith, le) in
+    ap (λ (k : ℕ). samples ++ replicate k value) (sym e)
+    ∙ (ap (λ (l : List Bool). samples ++ l) (sym (replicate-append-replicate n (pending - n) value))
+    ∙ (sym (append_assoc samples (replicate n value) (replicate (pending - n) value)) ∙ ap (λ (l : List Bool). l ++ replicate (pending - n) value) (sym is)))
 
--- samples of the bit that was begun, as a piece
-pub samples_piece : {E : Type 0} (most pending pending' : ℕ) (value : Bool) (generator : Lcg) (stray : ℕ) (ahead : Ahead) (x : Left Bool) (p : List Bool) → replicate pending value ≡ p ++ replicate pending' value → length p ≤ most → p ≢ []
-    → TakesPiece {E = E} most (sampling_over pending value generator stray ahead x) (sampling_over pending' value generator stray ahead x) (Ok p)
-samples_piece most pending pending' value generator stray ahead x p e few h =
-    let rest = strayed_runs generator 1 (7 + stray) (runs (ahead_bits ahead x.left)) in
-    record {
-      tells = refl;
-      few = few;
-      left = λ t. (ap (λ (xs : List Bool). xs ++ rest) e ∙ append_assoc p (replicate pending' value) rest, λ n. absurd (h n));
-      there = λ t here. pending_there pending pending' value _ p e h;
-      came = λ t. pending_there pending pending' value _ p e h;
-      steady = λ t s. (refl, s);
-      faults = cause_none p x.faults;
-      lent = refl;
-    }
+-- the samples of the next bit are begun, where the bit behind it was read
+pub goes_on : (before value value' : Bool) (generator generator' : Lcg) (d d' none pending : ℕ) (ahead ahead' : Ahead) (after : Bool) (ready ready' below : List Bool) → none ≡ 0 → ahead ≡ Bit value → ready ≡ after ∷ ready' → d < 3 → (d', generator') ≡ moved generator value (Some after)
+    → pending ≡ 8 + d' - d → value' ≡ value → ahead' ≡ ahead_of (Some after) → samples_of none before generator d ahead (ready ++ below) ≡ samples_of pending value' generator' d' ahead' (ready' ++ below)
+goes_on before value value' generator generator' d d' none pending ahead ahead' after ready ready' below z a r lt e p v b =
+    let left = ready' ++ below in
+    let step : StepsOn generator d value (d', generator') (runs (value ∷ after ∷ left)) (runs (after ∷ left)) =
+    subst (λ (m : ℕ × Lcg). StepsOn generator d value m (runs (value ∷ after ∷ left)) (runs (after ∷ left))) (sym e) (next_bit generator d value (Some after) left lt) in
+    rw (z, a, r, p, v, b) step

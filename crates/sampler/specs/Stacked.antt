@@ -94,11 +94,15 @@ abbrev pub moved : Lcg → Bool → Option Bool → ℕ × Lcg
 moved generator value None = (1, generator)
 moved generator value (Some b) = if beq value b then (1, generator) else ((pcg32 generator).0 % 3, (pcg32 generator).1)
 
+-- some samples of the bit that was begun, and then those of the bits ahead
+abbrev pub samples_of : ℕ → Bool → Lcg → ℕ → Ahead → List Bool → List Bool
+samples_of pending value generator stray ahead bits = replicate pending value ++ strayed_runs generator 1 (7 + stray) (runs (ahead_bits ahead bits))
+
 -- the samples of bits: some of the bit that was begun, and then those of the bits ahead, as if one bit's samples had come before them whose end was moved so far, plus one
 abbrev pub sampling_over : ℕ → Bool → Lcg → ℕ → Ahead → Left Bool → Left Bool
 sampling_over pending value generator stray ahead bits = record {
   tells = bits.tells;
-  left = replicate pending value ++ strayed_runs generator 1 (7 + stray) (runs (ahead_bits ahead bits.left));
+  left = samples_of pending value generator stray ahead bits.left;
   there = nat_lt 0 pending || (was_read ahead || bits.there);
   steady = bits.steady;
   faults = bits.faults;

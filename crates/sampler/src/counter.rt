@@ -1,6 +1,8 @@
 //! The count of equal samples since the last edge.
-ghost use Rattle.std.specs.Prelude.{◌≡◌, ◌≢◌, ◌↔◌, ℕ, Bool, IsTrue, List, false, ◌+◌, ◌<◌, ◌≤◌, ◌++◌, [], drop, length, replicate};
-ghost use Rattle.sampler.specs.Stacked.{counted_bits};
+ghost use Rattle.std.specs.Prelude.{◌≡◌, ◌≢◌, ◌↔◌, ℕ, Bool, IsTrue, List, false, not, ◌+◌, ◌<◌, ◌≤◌, ◌^◌, ◌++◌, [], length, replicate};
+ghost use Rattle.bits.specs.Bits.{bits_of};
+ghost use Rattle.sampler.specs.Edges.{changes};
+ghost use Rattle.sampler.specs.Stacked.{bits_after, counted_bits};
 
 use crate::gathered::Gathered;
 use std::marker::Model;
@@ -40,58 +42,64 @@ impl Counter {
         }
     }
 
-    /// The value of the first sample that is ready, and a number of samples at the front that are equal to it.
+    /// Counts n further samples that are equal to the last one, and adds the bits that they give.
     #[inline(always)]
-    fn run(&self) -> (bool, u32)
-        requires { self.now.ready ≢ [] }
-        ensures some { 0 < result.1 }
-        ensures equal { self.now.ready ≡ replicate result.1 result.0 ++ drop result.1 self.now.ready }
+    fn count_equal(&mut self, n: u32, bits: &mut Gathered)
+        requires { length bits.old + n ≤ 32 }
+        ensures gives { (rest : List Bool) → bits.old ++ bits_after self.old.last self.old.count (replicate n self.old.last ++ rest)
+            ≡ bits.new ++ bits_after self.new.last self.new.count rest }
+        ensures few { length bits.new ≤ length bits.old + n }
+        ensures last { self.new.last ≡ self.old.last }
+        ensures ready { self.new.ready ≡ self.old.ready }
     {
-        let n = self.ready.len();
-        let first = self.ready.number() << (u64::BITS - n);
-        let value = first >= 1 << (u64::BITS - 1);
-        let others = if value { !first } else { first };
-        (value, others.leading_zeros().min(n))
-    }
-
-    /// Counts samples of the first run that is ready, up to its end or to the one that gives the last of the bits asked
-    /// for.
-    #[inline(always)]
-    fn count_run(&mut self, most: u32, bits: &mut Gathered)
-        requires some { self.old.ready ≢ [] }
-        requires asked { 0 < most }
-        requires room { length bits.old + most ≤ 32 }
-        ensures gives { (rest : List Bool) → bits.old ++ counted_bits self.old rest ≡ bits.new ++ counted_bits self.new rest }
-        ensures few { length bits.new ≤ length bits.old + most }
-        ensures shorter { length self.new.ready < length self.old.ready }
-    {
-        let (value, run) = self.run();
-        if value != self.last {
-            self.last = value;
-            self.toward = 4;
-        }
-        let n = run.min(8 * most - self.toward);
-        self.ready.skip(n);
         let toward = self.toward + n;
-        bits.repeat(value, toward / 8);
+        bits.repeat(self.last, toward / 8);
         self.toward = toward % 8;
     }
 
-    /// The next bits of the samples that are ready, at most so many. Where it gives none, it counted all of them.
+    /// The next sample differs from the last one: the count begins again.
+    #[inline(always)]
+    fn turn(&mut self)
+        ensures { self.new ≡ record { ready = self.old.ready; last = not self.old.last; count = 0 } }
+    {
+        self.last = !self.last;
+        self.toward = 4;
+    }
+
+    /// Counts samples, from one edge to the next. They are the n lowest bits of a number.
+    #[inline(always)]
+    fn count(&mut self, samples: u64, n: u32) -> Gathered
+        requires few { n ≤ 32 }
+        requires small { samples < 2 ^ n }
+        ensures gives { (rest : List Bool) → bits_after self.old.last self.old.count (bits_of n samples ++ rest) ≡ result ++ bits_after self.new.last self.new.count rest }
+        ensures few { length result ≤ n }
+        ensures ready { self.new.ready ≡ self.old.ready }
+    {
+        let mut bits = Gathered::none();
+        let mut edges = edges(self.last, samples, n);
+        let mut left = n;
+        while edges > 0 {
+            let behind = edges.ilog2();
+            self.count_equal(left - 1 - behind, &mut bits);
+            self.turn();
+            edges -= 1 << behind;
+            left = behind + 1;
+        }
+        self.count_equal(left, &mut bits);
+        bits
+    }
+
+    /// The bits of the first samples that are ready, of at most so many.
     #[inline(always)]
     pub(crate) fn bits(&mut self, most: u32) -> Piece
         requires { 0 < most }
         ensures gives { (rest : List Bool) → counted_bits self.old rest ≡ result ++ counted_bits self.new rest }
         ensures few { length result ≤ most }
-        ensures through { result ≡ [] → self.new.ready ≡ [] }
         ensures shorter { self.old.ready ≢ [] → length self.new.ready < length self.old.ready }
     {
-        let most = most.min(32);
-        let mut bits = Gathered::none();
-        while bits.len() < most && !self.ready.is_empty() {
-            self.count_run(most - bits.len(), &mut bits);
-        }
-        bits.piece()
+        let n = most.min(self.ready.len());
+        let samples = self.ready.take(n);
+        self.count(samples, n).piece()
     }
 
     /// Whether no sample is ready.
@@ -109,4 +117,17 @@ impl Counter {
     {
         self.ready = samples;
     }
+}
+
+/// A one for each sample that differs from the one before it, at its place in the number whose n lowest bits they are. The last sample
+/// came before the first of them.
+#[inline(always)]
+fn edges(last: bool, samples: u64, n: u32) -> u64
+    requires few { n ≤ 32 }
+    requires small { samples < 2 ^ n }
+    ensures edges { bits_of n result ≡ changes last (bits_of n samples) }
+    ensures small { result < 2 ^ n }
+{
+    let with_last = (u64::from(last) << n) + samples;
+    (with_last ^ (with_last >> 1)) % (1 << n)
 }

@@ -1,9 +1,9 @@
 //! The samples of bits.
 ghost use Rattle.rand_pcg.specs.Lcg.{increment_of, started};
 ghost use Rattle.rand_pcg.specs.Pcg.{multiplier_64};
-ghost use Rattle.sampler.specs.Stacked.{ahead_bits, ahead_of, moved, ready_over, sampling_over};
+ghost use Rattle.sampler.specs.Stacked.{ahead_bits, ahead_of, moved, ready_over, samples_of, sampling_over};
 ghost use Rattle.sampler.specs.Strayed.{strayed};
-ghost use Rattle.std.specs.Prelude.{◌≡◌, ℕ, ◌+◌, ◌-◌, ◌<◌, ◌≤◌, [], ◌++◌, false, length, replicate};
+ghost use Rattle.std.specs.Prelude.{◌≡◌, ℕ, ◌+◌, ◌-◌, ◌<◌, ◌≤◌, Bool, IsTrue, List, [], ◌++◌, false, length, replicate};
 ghost use Rattle.wires.specs.Ahead.{Fills};
 
 use crate::gathered::Gathered;
@@ -68,22 +68,63 @@ impl<B: BitSource> Sampling<B> {
         }
     }
 
-    /// Gives out some of the samples that are left of the bit, at most so many.
+    /// Gives out samples that are left of the bit, so that there are at most so many.
     #[inline(always)]
-    fn give(&mut self, most: u32) -> Piece
-        ensures gives { replicate self.old.pending self.old.value ≡ result ++ replicate self.new.pending self.new.value }
-        ensures few { length result ≤ most }
-        ensures end { result ≡ [] → 0 < most → self.old.pending ≡ 0 }
+    fn give(&mut self, most: u32, samples: &mut Gathered)
+        requires few { most ≤ 32 }
+        requires room { length samples.old ≤ most }
+        ensures gives { samples.old ++ replicate self.old.pending self.old.value ≡ samples.new ++ replicate self.new.pending self.new.value }
+        ensures few { length samples.new ≤ most }
+        ensures more { length samples.old ≤ length samples.new }
+        ensures some { length samples.old < most → 0 < self.old.pending → length samples.old < length samples.new }
+        ensures through { length samples.new < most → self.new.pending ≡ 0 }
         ensures value { self.new.value ≡ self.old.value }
         ensures generator { self.new.generator ≡ self.old.generator }
         ensures stray { self.new.stray ≡ self.old.stray }
         ensures ahead { self.new.ahead ≡ self.old.ahead }
         ensures bits { self.new.bits ≡ self.old.bits }
     {
-        let n = most.min(u32::from(self.pending)).min(32);
+        let n = (most - samples.len()).min(u32::from(self.pending));
         self.pending -= n as u8;
-        let mut samples = Gathered::none();
         samples.repeat(self.value, n);
+    }
+
+    /// Begins the samples of the next bit, where what comes after that was read, and answers whether it did.
+    #[inline(always)]
+    fn go_on(&mut self) -> bool
+        requires { self.old.pending ≡ 0 }
+        ensures gives { (below : List Bool)
+            → samples_of self.old.pending self.old.value self.old.generator self.old.stray self.old.ahead (self.old.bits.ready ++ below)
+            ≡ samples_of self.new.pending self.new.value self.new.generator self.new.stray self.new.ahead (self.new.bits.ready ++ below) }
+        ensures some { IsTrue result → 0 < self.new.pending }
+        ensures source { self.new.bits.source ≡ self.old.bits.source }
+    {
+        let Ahead::Bit(value) = self.ahead else {
+            return false;
+        };
+        let Some(after) = self.bits.next_ready() else {
+            return false;
+        };
+        self.place(value, Some(after));
+        true
+    }
+
+    /// Gives out samples of the bit that was begun and of those behind it for which nothing has to be read, at most so many.
+    #[inline(always)]
+    fn gather(&mut self, most: u32) -> Piece
+        ensures gives { (below : List Bool)
+            → samples_of self.old.pending self.old.value self.old.generator self.old.stray self.old.ahead (self.old.bits.ready ++ below)
+            ≡ result ++ samples_of self.new.pending self.new.value self.new.generator self.new.stray self.new.ahead (self.new.bits.ready ++ below) }
+        ensures few { length result ≤ most }
+        ensures some { 0 < most → 0 < self.old.pending → 0 < length result }
+        ensures source { self.new.bits.source ≡ self.old.bits.source }
+    {
+        let asked = most.min(32);
+        let mut samples = Gathered::none();
+        self.give(asked, &mut samples);
+        while samples.len() < asked && self.go_on() {
+            self.give(asked, &mut samples);
+        }
         samples.piece()
     }
 
@@ -149,6 +190,18 @@ impl<B: BitSource> Sampling<B> {
         }
         Ok(())
     }
+
+    /// Sees to it that samples of a bit are left, where a bit is.
+    #[inline(always)]
+    fn ready(&mut self) -> Result<(), Failed>
+        ensures { Fills (sampling_over self.old.pending self.old.value self.old.generator self.old.stray self.old.ahead (⟦<OneByOne<B> as BitSource>⟧.state self.old.bits))
+            (sampling_over self.new.pending self.new.value self.new.generator self.new.stray self.new.ahead (⟦<OneByOne<B> as BitSource>⟧.state self.new.bits)) (replicate self.new.pending self.new.value) result }
+    {
+        if self.pending > 0 {
+            return Ok(());
+        }
+        self.fill()
+    }
 }
 
 impl<B: BitSource> BitSource for Sampling<B> {
@@ -160,11 +213,7 @@ impl<B: BitSource> BitSource for Sampling<B> {
     }
 
     fn piece(&mut self, most: u32) -> Result<Piece, Failed> {
-        let samples = self.give(most);
-        if !samples.is_empty() {
-            return Ok(samples);
-        }
-        self.fill()?;
-        Ok(self.give(most))
+        self.ready()?;
+        Ok(self.gather(most))
     }
 }

@@ -1,6 +1,6 @@
 //! Bits taken one by one out of pieces.
 ghost use Rattle.sampler.specs.Stacked.{ready_over};
-ghost use Rattle.std.specs.Prelude.{◌≡◌, []};
+ghost use Rattle.std.specs.Prelude.{◌≡◌, [], ◌∷◌, MatchOption};
 ghost use Rattle.wires.specs.Ahead.{Fills};
 
 use wires::Failed;
@@ -25,6 +25,15 @@ impl<B: BitSource> OneByOne<B> {
             source,
             ready: Piece::of(0, 0),
         }
+    }
+
+    /// Takes the next bit that is ready.
+    #[inline(always)]
+    pub(crate) fn next_ready(&mut self) -> Option<bool>
+        ensures source { self.new.source ≡ self.old.source }
+        ensures ready { MatchOption result (self.new ≡ self.old) (λ bit. self.old.ready ≡ bit ∷ self.new.ready) }
+    {
+        self.ready.pop()
     }
 
     /// Reads on, where no bit is ready.
