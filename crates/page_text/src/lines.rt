@@ -20,6 +20,12 @@ const DIGITS: usize = 7;
 /// The most bytes of a printed line: the digits, a space, the letter, a space, the text, LF.
 pub const LONGEST_LINE: usize = DIGITS + 3 + ESCAPED * LONGEST_READ + 1;
 
+/// A text of at most so many bytes gets its line in a small buffer, since a buffer is cleared at the size of its longest line.
+const SHORT_TEXT: usize = 128;
+
+/// The most bytes of the line of such a text.
+const SHORT_LINE: usize = DIGITS + 3 + ESCAPED * SHORT_TEXT + 1;
+
 /// The hexadecimal digits.
 const HEX_DIGITS: [u8; 16] = *b"0123456789ABCDEF";
 
@@ -27,6 +33,40 @@ const HEX_DIGITS: [u8; 16] = *b"0123456789ABCDEF";
 /// spaces. In the text a backslash is `\\`, LF `\n`, CR `\r`, the other characters 0x20 to 0x7E are themselves, and every other
 /// byte is `\x` and two hexadecimal digits in capitals. `Failed` where the sink fails.
 pub fn line<K: Sink>(
+    capcode: Capcode,
+    function: Function,
+    text: &[u8],
+    sink: &mut K,
+) -> Result<(), Failed>
+    requires { length text.now ≤ LONGEST_READ }
+    ensures { Puts (K.state sink.old) (K.state sink.new) (line_of capcode function text.now) result }
+{
+    if text.len() <= SHORT_TEXT {
+        put_short(capcode, function, text, sink)
+    } else {
+        put_long(capcode, function, text, sink)
+    }
+}
+
+/// Puts the line of a short text. Each buffer lies in a call of its own.
+#[inline(never)]
+fn put_short<K: Sink>(
+    capcode: Capcode,
+    function: Function,
+    text: &[u8],
+    sink: &mut K,
+) -> Result<(), Failed>
+    requires { length text.now ≤ SHORT_TEXT }
+    ensures { Puts (K.state sink.old) (K.state sink.new) (line_of capcode function text.now) result }
+{
+    let mut line = ArrayVec::<u8, SHORT_LINE>::new();
+    push_line(capcode, function, text, &mut line);
+    sink.put(&line)
+}
+
+/// Puts the line of any text.
+#[inline(never)]
+fn put_long<K: Sink>(
     capcode: Capcode,
     function: Function,
     text: &[u8],
@@ -45,18 +85,31 @@ pub fn written(capcode: Capcode, function: Function, text: &[u8]) -> ArrayVec<u8
     ensures { result.items ≡ line_of capcode function text.now }
 {
     let mut line = ArrayVec::new();
-    push_digits(capcode.number(), &mut line);
-    line.push(b' ');
-    line.push(function.letter());
-    line.push(b' ');
-    push_text(text, &mut line);
-    line.push(b'\n');
+    push_line(capcode, function, text, &mut line);
     line
 }
 
+/// Appends the line.
+fn push_line<const N: usize>(
+    capcode: Capcode,
+    function: Function,
+    text: &[u8],
+    line: &mut ArrayVec<u8, N>,
+)
+    requires { array_vec_len line.old + DIGITS + 4 + ESCAPED * length text.now ≤ N }
+    ensures { line.new.items ≡ line.old.items ++ line_of capcode function text.now }
+{
+    push_digits(capcode.number(), line);
+    line.push(b' ');
+    line.push(function.letter());
+    line.push(b' ');
+    push_text(text, line);
+    line.push(b'\n');
+}
+
 /// Appends the seven lowest decimal digits of a number.
-fn push_digits(number: u32, line: &mut ArrayVec<u8, LONGEST_LINE>)
-    requires { array_vec_len line.old + DIGITS ≤ LONGEST_LINE }
+fn push_digits<const N: usize>(number: u32, line: &mut ArrayVec<u8, N>)
+    requires { array_vec_len line.old + DIGITS ≤ N }
     ensures { line.new.items ≡ line.old.items ++ decimal_digits 7 number }
 {
     for digit in &digits(number) {
@@ -87,8 +140,8 @@ fn digit(number: u32) -> u8
 }
 
 /// Appends the bytes of a text as they are written.
-fn push_text(text: &[u8], line: &mut ArrayVec<u8, LONGEST_LINE>)
-    requires { array_vec_len line.old + ESCAPED * length text.now ≤ LONGEST_LINE }
+fn push_text<const N: usize>(text: &[u8], line: &mut ArrayVec<u8, N>)
+    requires { array_vec_len line.old + ESCAPED * length text.now ≤ N }
     ensures items { line.new.items ≡ line.old.items ++ flat_map escaped_byte text.now }
     ensures few { array_vec_len line.new ≤ array_vec_len line.old + ESCAPED * length text.now }
 {
@@ -98,8 +151,8 @@ fn push_text(text: &[u8], line: &mut ArrayVec<u8, LONGEST_LINE>)
 }
 
 /// Appends one byte of a text as it is written.
-fn push_escaped(c: u8, line: &mut ArrayVec<u8, LONGEST_LINE>)
-    requires { array_vec_len line.old + ESCAPED ≤ LONGEST_LINE }
+fn push_escaped<const N: usize>(c: u8, line: &mut ArrayVec<u8, N>)
+    requires { array_vec_len line.old + ESCAPED ≤ N }
     ensures items { line.new.items ≡ line.old.items ++ escaped_byte c }
     ensures few { array_vec_len line.new ≤ array_vec_len line.old + ESCAPED }
 {
@@ -117,8 +170,8 @@ fn push_escaped(c: u8, line: &mut ArrayVec<u8, LONGEST_LINE>)
 }
 
 /// Appends a backslash and a character.
-fn push_pair(c: u8, line: &mut ArrayVec<u8, LONGEST_LINE>)
-    requires { array_vec_len line.old + 2 ≤ LONGEST_LINE }
+fn push_pair<const N: usize>(c: u8, line: &mut ArrayVec<u8, N>)
+    requires { array_vec_len line.old + 2 ≤ N }
     ensures items { line.new.items ≡ line.old.items ++ 92 ∷ c ∷ [] }
     ensures len { array_vec_len line.new ≡ array_vec_len line.old + 2 }
 {
