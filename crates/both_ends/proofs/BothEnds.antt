@@ -21,7 +21,7 @@ use Rattle.tap_entry.specs.Client.{PageToSend, IsPage, Client, silent, turned_aw
 use Rattle.tap_entry.proofs.Counts.{naks_push}
 use Rattle.tap_entry.proofs.OneCut.{marks_found, marks_front}
 use Rattle.tap_entry.specs.MarkReaders.{marks_of}
-use Rattle.both_ends.specs.Joined.{sent_of, AreFor, BothEnds}
+use Rattle.both_ends.specs.Joined.{sent_of, AreForAll, BothEnds}
 use Rattle.both_ends.proofs.JoinedPages.{take_over}
 use Rattle.both_ends.proofs.JoinedLogons.{ends, logon_text, logon_short, logon_no_cr, logon_item, line_first, IsWelcome, unwelcomed_answered}
 use Rattle.both_ends.proofs.JoinedLimit.{played_short, closing_one, replies_short, replies_append}
@@ -96,23 +96,23 @@ welcome_short mine theirs directory spare more t answers accepted secret welcome
 -- the limit cuts nothing off
 whole : (mine theirs : Option (List ℕ)) (directory : Directory) (spare : ℕ) (pages : List PageToSend) (h t : List ℕ) (marks : List Mark) (outcomes : List Outcome) (answers : List Answer) (accepted : List Accepted)
     → AllByRecursion IsPage pages → IsPassword mine → AreHeard h marks → Client mine pages marks outcomes t → IsPlayed theirs directory spare t answers accepted → h ≡ replies answers
-    → length (replies answers) ≤ 999999 → AreFor directory (sent_of pages outcomes) accepted
+    → length (replies answers) ≤ 999999 → AreForAll directory (sent_of pages outcomes) accepted
 whole mine theirs directory spare pages h t marks outcomes answers accepted good secret are client session said short =
     let n : length (characters h) ≤ 999999 = (let a = length-map h char_of in let b = ap length said in omega (arith, a, b, short)) in
     ends mine theirs directory spare pages h t marks outcomes answers accepted good secret (subst (λ z. AreMarks z marks) (take_all 999999 (characters h) n) are) client session said
 
 limited : (mine theirs : Option (List ℕ)) (directory : Directory) (spare : ℕ) (pages : List PageToSend) (h t : List ℕ) (marks : List Mark) (outcomes : List Outcome) (answers : List Answer) (accepted : List Accepted)
     → AllByRecursion IsPage pages → IsPassword mine → AreHeard h marks → Client mine pages marks outcomes t → IsPlayed theirs directory spare t answers accepted → h ≡ replies answers
-    → AreFor directory (sent_of pages outcomes) accepted
+    → AreForAll directory (sent_of pages outcomes) accepted
 limited mine theirs directory spare pages h t marks outcomes answers accepted good secret are client session said = by_client client
   where
-    short : length (replies answers) ≤ 999999 → AreFor directory (sent_of pages outcomes) accepted
+    short : length (replies answers) ≤ 999999 → AreForAll directory (sent_of pages outcomes) accepted
     short n = whole mine theirs directory spare pages h t marks outcomes answers accepted good secret are client session said n
 
-    few_said : length t ≤ 34 → AreFor directory (sent_of pages outcomes) accepted
+    few_said : length t ≤ 34 → AreForAll directory (sent_of pages outcomes) accepted
     few_said n = let a = played_short theirs directory spare t answers accepted session in short (omega (arith, n, a))
 
-    by_client : Client mine pages marks outcomes t → AreFor directory (sent_of pages outcomes) accepted
+    by_client : Client mine pages marks outcomes t → AreForAll directory (sent_of pages outcomes) accepted
     by_client (silent s) = few_said (let e = ap length s.said_is in omega (arith, e))
     by_client (turned_away s) = few_said (let e = ap length s.said_is in omega (arith, e))
     by_client (still_calling s) = few_said (let e = ap length s.said_is in let k = calling_short mine s.since secret s.calling in omega (arith, e, k))
@@ -121,7 +121,7 @@ limited mine theirs directory spare pages h t marks outcomes answers accepted go
         all : List Mark
         all = marks_of (characters h)
 
-        by_logon : (b : Bool) → is_logon theirs (without_lf (logon_text mine)) ≡ b → AreFor directory (sent_of pages outcomes) accepted
+        by_logon : (b : Bool) → is_logon theirs (without_lf (logon_text mine)) ≡ b → AreForAll directory (sent_of pages outcomes) accepted
         by_logon true e = short (welcome_short mine theirs directory spare (flat_map (λ m. cond (is_nak m) (logon_line mine) []) s.since ++ s.more) t answers accepted secret e
             (s.said_is ∙ ap (λ z. cr ∷ z) (append_assoc (logon_line mine) (flat_map (λ m. cond (is_nak m) (logon_line mine) []) s.since) s.more)) session)
         by_logon false e =

@@ -9,13 +9,14 @@ use Rattle.tap_block.specs.Reading.{IsBody, IsBodyChar}
 use Rattle.tap_block.specs.Fields.{escaped, escape_of, content_parts, read_field, front}
 use Rattle.tap_block.proofs.Values.{escaped_read, read_plain}
 use Rattle.tap_block.proofs.PartsOf.{parts_some}
-use Rattle.subscribers.specs.declared.subscriber.Subscriber.{Subscriber}
+use Rattle.subscribers.specs.Parts.{Target}
 use Rattle.tap_terminal.specs.declared.answers.Reason.{Reason}
 use Rattle.tap_terminal.specs.declared.answers.Reason.TheVariants.{Unknown, Text, Room}
 use Rattle.tap_terminal.specs.declared.answers.Answer.TheVariants.{Ack}
 use Rattle.page_text.specs.declared.limits.TheConstants.{LONGEST_TEXT}
 use Rattle.page_text.specs.FitTest.{fits}
 use Rattle.page_pool.specs.Cells.{cells_for}
+use Rattle.page_pool.specs.Gains.{pages_to}
 use Rattle.subscribers.specs.Directory.{Directory}
 use Rattle.tap_terminal.specs.Verdict.{Verdict, refused, values_of, room_for, text_for, judge_content}
 use Rattle.tap_entry.specs.Client.{PageToSend, IsPage, content}
@@ -115,22 +116,22 @@ content_values p h =
     }) in
     rw (parts, digits_read p.id h.id_digits, escaped_read p.text h.text_chars) refl
 
--- a whole content is accepted as this page or refused
+-- a whole content is accepted as the pages of this page to send, or refused
 pub data IsJudged (table : Directory) (p : PageToSend) : Verdict → Type 0 where
-  taken : (s : Subscriber) → table p.id ≡ Some s → IsJudged table p (record { answer = Ack; joined = []; page = Some (record { capcode = s.capcode; function = s.function; text = p.text }) })
+  taken : (t : Target) → table p.id ≡ Some t → IsJudged table p (record { answer = Ack; joined = []; pages = pages_to t.capcodes t.function p.text })
   refused_for : (reason : Reason) → IsJudged table p (refused reason)
 
 pub judged : (table : Directory) (spare : ℕ) (p : PageToSend) → IsPage p → IsJudged table p (judge_content table spare (content p))
 judged table spare p h = rw (content_values p h) (by_id (table p.id) refl)
   where
-    by_room : (s : Subscriber) → table p.id ≡ Some s → (b : Bool) → IsJudged table p (cond b (refused Room) (record { answer = Ack; joined = []; page = Some (record { capcode = s.capcode; function = s.function; text = p.text }) }))
-    by_room s e true = refused_for Room
-    by_room s e false = taken s e
+    by_room : (t : Target) → table p.id ≡ Some t → (b : Bool) → IsJudged table p (cond b (refused Room) (record { answer = Ack; joined = []; pages = pages_to t.capcodes t.function p.text }))
+    by_room t e true = refused_for Room
+    by_room t e false = taken t e
 
-    by_fit : (s : Subscriber) → table p.id ≡ Some s → (b : Bool) → IsJudged table p (cond b (room_for s p.text spare) (refused Text))
-    by_fit s e true = by_room s e (nat_lt spare (cells_for (length p.text)))
-    by_fit s e false = refused_for Text
+    by_fit : (t : Target) → table p.id ≡ Some t → (b : Bool) → IsJudged table p (cond b (room_for t p.text spare) (refused Text))
+    by_fit t e true = by_room t e (nat_lt spare (cells_for (length p.text) * length t.capcodes))
+    by_fit t e false = refused_for Text
 
-    by_id : (o : Option Subscriber) → table p.id ≡ o → IsJudged table p (text_for o p.text spare)
+    by_id : (o : Option Target) → table p.id ≡ o → IsJudged table p (text_for o p.text spare)
     by_id None e = refused_for Unknown
-    by_id (Some s) e = by_fit s e (fits s.function p.text)
+    by_id (Some t) e = by_fit t e (fits t.function p.text)

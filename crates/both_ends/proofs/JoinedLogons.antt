@@ -1,5 +1,5 @@
 -- Both ends from the first character on.
-use Rattle.std.proofs.Common.{◌≡◌, ◌≢◌, ℕ, ◌+◌, ◌-◌, ◌*◌, ◌≤◌, cond, Bool, true, false, List, [], ◌∷◌, ◌++◌, length, take, refl, ap, sym, ◌∙◌, subst, arith, append_assoc, append-nil, Option, Some, None, length-append, inl, inr}
+use Rattle.std.proofs.Common.{◌≡◌, ◌≢◌, ℕ, ◌-◌, ◌≤◌, cond, Bool, true, false, List, [], ◌∷◌, ◌++◌, length, take, refl, ap, sym, ◌∙◌, subst, arith, append_assoc, append-nil, Option, Some, None, length-append, inl, inr}
 use Rattle.std.specs.List.{AllByRecursion, flat_map}
 use Rattle.std.specs.Prelude.{codes}
 use Rattle.entry_line.specs.Chars.{cr}
@@ -18,7 +18,7 @@ use Rattle.tap_entry.specs.declared.outcomes.Outcome.{Outcome}
 use Rattle.tap_entry.specs.declared.outcomes.Outcome.TheVariants.{NoLogon}
 use Rattle.tap_entry.specs.Client.{PageToSend, IsPage, Client, silent, turned_away, still_calling, answered, IsCalling, DecidesLogon, is_nak, password_text, logon_line, logons, LogsOn, Sends, all_are}
 use Rattle.tap_terminal.specs.Replies.{replies}
-use Rattle.both_ends.specs.Joined.{sent_of, AreFor}
+use Rattle.both_ends.specs.Joined.{sent_of, AreForAll}
 use Rattle.tap_entry.specs.PagesFile.{IsPassword}
 use Rattle.both_ends.proofs.JoinedContents.{all_append, all_weak}
 use Rattle.both_ends.proofs.JoinedSessions.{IsPlayed}
@@ -231,10 +231,10 @@ away_no theirs table spare t marks answers accepted said_is session heard before
 
 welcomed : (mine theirs : Option (List ℕ)) (table : Directory) (spare : ℕ) (pages : List PageToSend) (t : List ℕ) (marks : List Mark) (outcomes : List Outcome) (answers : List Answer) (accepted : List Accepted)
     → AllByRecursion IsPage pages → IsPassword mine → IsWelcome mine theirs → Client mine pages marks outcomes t
-    → IsPlayed theirs table spare t answers accepted → marks ≡ flat_map marks_for answers → AreFor table (sent_of pages outcomes) accepted
+    → IsPlayed theirs table spare t answers accepted → marks ≡ flat_map marks_for answers → AreForAll table (sent_of pages outcomes) accepted
 welcomed mine theirs table spare pages t marks outcomes answers accepted good secret welcome client session heard = by_client client heard
   where
-    by_client : Client mine pages marks outcomes t → marks ≡ flat_map marks_for answers → AreFor table (sent_of pages outcomes) accepted
+    by_client : Client mine pages marks outcomes t → marks ≡ flat_map marks_for answers → AreForAll table (sent_of pages outcomes) accepted
     by_client (silent s) heard = absurd (silent_no theirs table spare t marks answers accepted s.said_is session heard s.no_id)
     by_client (turned_away s) heard = absurd (away_no theirs table spare t marks answers accepted s.said_is session heard s.before s.rest s.no_id s.marks_are)
     by_client (still_calling s) heard =
@@ -248,7 +248,7 @@ welcomed mine theirs table spare pages t marks outcomes answers accepted good se
         let d = go_decides s.since s.mark s.rest _ s.calling s.decides e in
         let reads = subst (λ z. Reads theirs AfterLogon g.pieces g.rest (take g.room (flat_map (λ m. cond (is_nak m) (logon_line mine) []) z ++ s.more))) d.0 g.reads in
         let sends : Sends pages s.rest outcomes s.more = subst (λ m. LogsOn m pages s.rest outcomes s.more) d.1 s.logs_on in
-        subst (λ z. AreFor table (sent_of pages outcomes) z) (sym g.accepted_are)
+        subst (λ z. AreForAll table (sent_of pages outcomes) z) (sym g.accepted_are)
         (sends_joined theirs table pages good s.rest outcomes s.more g.rest (start spare) g.pieces g.room g.extra g.closing sends refl reads d.2)
 
 again : Option (List ℕ) → List Mark → List ℕ
@@ -328,7 +328,7 @@ none_no_logon (p ∷ pages) = none_no_logon pages
 pub unwelcomed_answered : (mine theirs : Option (List ℕ)) (table : Directory) (spare : ℕ) (pages : List PageToSend) (t : List ℕ) (all : List Mark) (outcomes : List Outcome) (answers : List Answer) (accepted : List Accepted)
     → IsPassword mine → IsUnwelcome mine theirs → IsPlayed theirs table spare t answers accepted → all ≡ flat_map marks_for answers
     → (before since : List Mark) (mark : Mark) (behind rest : List Mark) (more : List ℕ) → all ≡ before ++ IdMark ∷ (since ++ mark ∷ behind) → AllByRecursion (λ m. (m ≢ IdMark) × (m ≢ EndMark)) before
-    → IsCalling since → DecidesLogon since mark → t ≡ cr ∷ (logons mine since ++ more) → LogsOn mark pages rest outcomes more → AreFor table (sent_of pages outcomes) accepted
+    → IsCalling since → DecidesLogon since mark → t ≡ cr ∷ (logons mine since ++ more) → LogsOn mark pages rest outcomes more → AreForAll table (sent_of pages outcomes) accepted
 unwelcomed_answered mine theirs table spare pages t all outcomes answers accepted secret un session heard before since mark behind rest more all_are_marks ignored calling decides said_is logs_on =
     let h = shut mine theirs table spare t all answers accepted secret un session heard in
     let p = prompted theirs table spare _ t all answers accepted said_is session heard in
@@ -336,20 +336,20 @@ unwelcomed_answered mine theirs table spare pages t all outcomes answers accepte
     (said_is ∙ ap (λ z. cr ∷ z) (append_assoc (logon_line mine) (flat_map (λ m. cond (is_nak m) (logon_line mine) []) since) more)) calling decides
     (all_are_marks ∙ none_before_is before (since ++ mark ∷ behind) p.0 ignored (sym all_are_marks ∙ p.1)) in
     let l : LogsOn EndMark pages rest outcomes more = subst (λ m. LogsOn m pages rest outcomes more) d.0 logs_on in
-    subst (λ z. AreFor table (sent_of pages z) accepted) (sym l.0) (subst (λ z. AreFor table z accepted) (sym (none_no_logon pages)) (subst (λ z. AreFor table [] z) (sym d.1) tt))
+    subst (λ z. AreForAll table (sent_of pages z) accepted) (sym l.0) (subst (λ z. AreForAll table z accepted) (sym (none_no_logon pages)) d.1)
 
 unwelcomed : (mine theirs : Option (List ℕ)) (table : Directory) (spare : ℕ) (pages : List PageToSend) (t : List ℕ) (marks : List Mark) (outcomes : List Outcome) (answers : List Answer) (accepted : List Accepted)
     → IsPassword mine → IsUnwelcome mine theirs → Client mine pages marks outcomes t
-    → IsPlayed theirs table spare t answers accepted → marks ≡ flat_map marks_for answers → AreFor table (sent_of pages outcomes) accepted
+    → IsPlayed theirs table spare t answers accepted → marks ≡ flat_map marks_for answers → AreForAll table (sent_of pages outcomes) accepted
 unwelcomed mine theirs table spare pages t marks outcomes answers accepted secret un client session heard = by_client client
   where
     h : IsShut theirs table spare t marks accepted mine
     h = shut mine theirs table spare t marks answers accepted secret un session heard
 
-    nothing : outcomes ≡ all_are NoLogon pages → accepted ≡ [] → AreFor table (sent_of pages outcomes) accepted
-    nothing e f = subst (λ z. AreFor table (sent_of pages z) accepted) (sym e) (subst (λ z. AreFor table z accepted) (sym (none_no_logon pages)) (subst (λ z. AreFor table [] z) (sym f) tt))
+    nothing : outcomes ≡ all_are NoLogon pages → accepted ≡ [] → AreForAll table (sent_of pages outcomes) accepted
+    nothing e f = subst (λ z. AreForAll table (sent_of pages z) accepted) (sym e) (subst (λ z. AreForAll table z accepted) (sym (none_no_logon pages)) f)
 
-    by_client : Client mine pages marks outcomes t → AreFor table (sent_of pages outcomes) accepted
+    by_client : Client mine pages marks outcomes t → AreForAll table (sent_of pages outcomes) accepted
     by_client (silent s) = absurd (silent_no theirs table spare t marks answers accepted s.said_is session heard s.no_id)
     by_client (turned_away s) = absurd (away_no theirs table spare t marks answers accepted s.said_is session heard s.before s.rest s.no_id s.marks_are)
     by_client (still_calling s) =
@@ -366,10 +366,10 @@ unwelcomed mine theirs table spare pages t marks outcomes answers accepted secre
 pub ends : (mine theirs : Option (List ℕ)) (table : Directory) (spare : ℕ) (pages : List PageToSend) (h t : List ℕ) (marks : List Mark) (outcomes : List Outcome) (answers : List Answer) (accepted : List Accepted)
     → AllByRecursion IsPage pages → IsPassword mine
     → AreMarks (characters h) marks → Client mine pages marks outcomes t → IsPlayed theirs table spare t answers accepted → h ≡ replies answers
-    → AreFor table (sent_of pages outcomes) accepted
+    → AreForAll table (sent_of pages outcomes) accepted
 ends mine theirs table spare pages h t marks outcomes answers accepted good secret are client session said =
     by_logon (is_logon theirs (without_lf (logon_text mine))) refl (reply_marks answers marks (subst (λ z. AreMarks (characters z) marks) said are))
   where
-    by_logon : (b : Bool) → is_logon theirs (without_lf (logon_text mine)) ≡ b → marks ≡ flat_map marks_for answers → AreFor table (sent_of pages outcomes) accepted
+    by_logon : (b : Bool) → is_logon theirs (without_lf (logon_text mine)) ≡ b → marks ≡ flat_map marks_for answers → AreForAll table (sent_of pages outcomes) accepted
     by_logon true e heard = welcomed mine theirs table spare pages t marks outcomes answers accepted good secret e client session heard
     by_logon false e heard = unwelcomed mine theirs table spare pages t marks outcomes answers accepted secret e client session heard

@@ -1,5 +1,5 @@
 -- A logged on client and a terminal, block by block.
-use Rattle.std.proofs.Common.{◌≡◌, ◌≢◌, ℕ, suc, zero, ◌+◌, ◌-◌, ◌*◌, ◌<◌, ◌≤◌, ◌==◌, cond, Bool, true, false, List, [], ◌∷◌, ◌++◌, length, take, drop, refl, ap, ap₂, sym, ◌∙◌, subst, arith, append_assoc, append-nil, Option, Some, ◌⊎◌, inl, inr, nat_lt, length-append, length-take, length-drop}
+use Rattle.std.proofs.Common.{◌≡◌, ◌≢◌, ℕ, suc, zero, ◌+◌, ◌-◌, ◌*◌, ◌<◌, ◌≤◌, ◌==◌, cond, Bool, true, false, List, [], ◌∷◌, ◌++◌, length, take, drop, refl, ap, ap₂, sym, ◌∙◌, subst, arith, append_assoc, append-nil, Option, ◌⊎◌, inl, inr, nat_lt, length-append, length-take, length-drop}
 use Rattle.std.specs.List.{AllByRecursion, flat_map}
 use Rattle.std.proofs.Math.Seq.{take-add, take-append-add}
 use Rattle.std.proofs.lemmas.List.{take_all, take-append-le, take-append-drop}
@@ -18,6 +18,7 @@ use Rattle.tap_block.proofs.First.{first_piece}
 use Rattle.tap_block.proofs.LoneBlocks.{front_of_block, no_pieces}
 use Rattle.tap_terminal.specs.declared.answers.Answer.TheVariants.{Ack}
 use Rattle.page_text.specs.Page.{Page as Accepted}
+use Rattle.page_pool.specs.Gains.{pages_to}
 use Rattle.subscribers.specs.Directory.{Directory}
 use Rattle.tap_terminal.specs.declared.terminal.TheConstants.{LONGEST_CONTENT}
 use Rattle.tap_terminal.specs.Verdict.{Verdict, refused, judge_content, by_end, verdict}
@@ -27,7 +28,7 @@ use Rattle.tap_entry.specs.declared.hearing.Mark.TheVariants.{Ack as AckMark, Rs
 use Rattle.tap_entry.specs.declared.outcomes.Outcome.{Outcome}
 use Rattle.tap_entry.specs.declared.outcomes.Outcome.TheVariants.{Sent, Abandoned, TriesSpent, Disconnected, NoLogon}
 use Rattle.tap_entry.specs.Client.{PageToSend, IsPage, content, count_of, body_at, end_at, block_at, acks, is_ack, Decides, IsUndecided, said_after, good_bye, all_are, Follows, Sends}
-use Rattle.both_ends.specs.Joined.{sent_of, IsFor, AreFor}
+use Rattle.both_ends.specs.Joined.{sent_of, AreFor, AreForAll}
 use Rattle.both_ends.proofs.JoinedReplies.{marks_for}
 use Rattle.both_ends.proofs.JoinedContents.{content_body, content_length, content_some, IsJudged, taken, refused_for, judged, all_take, all_drop}
 
@@ -49,8 +50,8 @@ fits_in table spare joined b e h k =
 data Answered (table : Directory) (p : PageToSend) (k : ℕ) (s : Course) (items others : List Entry) : Type 0 where
   further : k + 1 < count_of (content p) → (t : Course) → t.joined ≡ take (250 * (k + 1)) (content p)
       → heard_from table s items ≡ AckMark ∷ heard_from table t others → accepted_from table s items ≡ accepted_from table t others → Answered table p k s items others
-  accepted : k + 1 ≡ count_of (content p) → (t : Course) → t.joined ≡ [] → (a : Accepted) → IsFor table p a
-      → heard_from table s items ≡ AckMark ∷ heard_from table t others → accepted_from table s items ≡ a ∷ accepted_from table t others → Answered table p k s items others
+  accepted : k + 1 ≡ count_of (content p) → (t : Course) → t.joined ≡ [] → (own : List Accepted) → AreFor table p own
+      → heard_from table s items ≡ AckMark ∷ heard_from table t others → accepted_from table s items ≡ own ++ accepted_from table t others → Answered table p k s items others
   given_up : k + 1 ≡ count_of (content p) → (t : Course) → t.joined ≡ []
       → heard_from table s items ≡ RsMark ∷ heard_from table t others → accepted_from table s items ≡ accepted_from table t others → Answered table p k s items others
 
@@ -91,9 +92,9 @@ answered_last table p k s others h last j =
   where
     by_verdict : (v : Verdict) → IsJudged table p v → verdict table s.spare s.joined (body_at (content p) k) Etx true ≡ v
         → Answered table p k s (a_block (body_at (content p) k) Etx true ∷ others) others
-    by_verdict v (taken sub known) e = let t = told_block table s (body_at (content p) k) Etx others _ e in
-        accepted last (decided (a_block (body_at (content p) k) Etx true) s (record { answer = Ack; joined = []; page = Some (record { capcode = sub.capcode; function = sub.function; text = p.text }) })).course refl
-        (record { capcode = sub.capcode; function = sub.function; text = p.text }) (sub, known, refl) (ap (λ z. flat_map marks_for (answers_of z)) t) (ap pages_of t)
+    by_verdict v (taken target known) e = let t = told_block table s (body_at (content p) k) Etx others _ e in
+        accepted last (decided (a_block (body_at (content p) k) Etx true) s (record { answer = Ack; joined = []; pages = pages_to target.capcodes target.function p.text })).course refl
+        (pages_to target.capcodes target.function p.text) (record { target = target; known = known; pages_are = refl }) (ap (λ z. flat_map marks_for (answers_of z)) t) (ap pages_of t)
     by_verdict v (refused_for reason) e = let t = told_block table s (body_at (content p) k) Etx others _ e in
         given_up last (decided (a_block (body_at (content p) k) Etx true) s (refused reason)).course refl (ap (λ z. flat_map marks_for (answers_of z)) t) (ap pages_of t)
 
@@ -206,7 +207,7 @@ record IsPassed (password : Option (List ℕ)) (table : Directory) (p : PageToSe
   course : Course
   joined : course.joined ≡ []
   heard : rest ≡ heard_from table course (items_of password others) ++ extra
-  result : ((outcome ≡ Sent) × ((a : Accepted) × IsFor table p a × (accepted_from table s (items_of password ps) ≡ a ∷ accepted_from table course (items_of password others))))
+  result : ((outcome ≡ Sent) × ((own : List Accepted) × AreFor table p own × (accepted_from table s (items_of password ps) ≡ own ++ accepted_from table course (items_of password others))))
       ⊎ ((outcome ≡ Abandoned) × (accepted_from table s (items_of password ps) ≡ accepted_from table course (items_of password others)))
 
 -- A page was decided: by the answer to its last block, or by the End that the length of the session brought.
@@ -270,9 +271,9 @@ passes_step password table p r more rest extra outcome mark h closing j k before
         from_there (again (n - length (block_at (content p) k)) (omega (arith, left)) t (done ++ AckMark ∷ []) since qs (acks_push done ∙ ap (λ n. n + 1) ak) u d je
         (subst (λ z. Reads password AfterLogon qs r (take (n - length (block_at (content p) k)) z)) g reads) (tail_is _ _ _ _ (heard ∙ ap (λ z. z ++ extra) hm)))
       where
-        also : (os : List InputPiece) (u : Course) → ((outcome ≡ Sent) × ((a : Accepted) × IsFor table p a × (accepted_from table t (items_of password qs) ≡ a ∷ accepted_from table u (items_of password os))))
+        also : (os : List InputPiece) (u : Course) → ((outcome ≡ Sent) × ((own : List Accepted) × AreFor table p own × (accepted_from table t (items_of password qs) ≡ own ++ accepted_from table u (items_of password os))))
             ⊎ ((outcome ≡ Abandoned) × (accepted_from table t (items_of password qs) ≡ accepted_from table u (items_of password os)))
-            → ((outcome ≡ Sent) × ((a : Accepted) × IsFor table p a × (accepted_from table s (items_of password ps) ≡ a ∷ accepted_from table u (items_of password os))))
+            → ((outcome ≡ Sent) × ((own : List Accepted) × AreFor table p own × (accepted_from table s (items_of password ps) ≡ own ++ accepted_from table u (items_of password os))))
             ⊎ ((outcome ≡ Abandoned) × (accepted_from table s (items_of password ps) ≡ accepted_from table u (items_of password os)))
         also os u (inl (o, a)) = inl (o, (a.0, a.1, pm ∙ a.2))
         also os u (inr (o, a)) = inr (o, pm ∙ a)
@@ -307,9 +308,9 @@ some_block : (p : PageToSend) → IsPage p → 0 + suc (count_of (content p) - 1
 some_block p h = let n = content_some p h in omega (arith, n)
 
 -- where no page is sent none is accepted
-none_for : (table : Directory) (pages : List PageToSend) (outcomes : List Outcome) (queued : List Accepted) → outcomes ≡ all_are Disconnected pages → queued ≡ [] → AreFor table (sent_of pages outcomes) queued
+none_for : (table : Directory) (pages : List PageToSend) (outcomes : List Outcome) (queued : List Accepted) → outcomes ≡ all_are Disconnected pages → queued ≡ [] → AreForAll table (sent_of pages outcomes) queued
 none_for table pages outcomes queued is none =
-    subst (λ z. AreFor table (sent_of pages z) queued) (sym is) (subst (λ z. AreFor table z queued) (sym (none_sent Disconnected (λ e. cc) pages)) (subst (λ z. AreFor table [] z) (sym none) tt))
+    subst (λ z. AreForAll table (sent_of pages z) queued) (sym is) (subst (λ z. AreForAll table z queued) (sym (none_sent Disconnected (λ e. cc) pages)) none)
 
 -- only EOT CR is said, or a front of it is read
 leaves : (password : Option (List ℕ)) (table : Directory) (s : Course) (ps : List InputPiece) (r t : List ℕ) (n : ℕ) → t ≡ good_bye → Reads password AfterLogon ps r (take n t) → accepted_from table s (items_of password ps) ≡ []
@@ -322,9 +323,9 @@ leaves password table s ps r t (suc (suc n)) e reads =
 pub sends_joined : (password : Option (List ℕ)) (table : Directory) (pages : List PageToSend) → AllByRecursion IsPage pages
     → (marks : List Mark) (outcomes : List Outcome) (t r : List ℕ) (s : Course) (ps : List InputPiece) (n : ℕ) (extra : List Mark) → IsClosing extra → Sends pages marks outcomes t → s.joined ≡ []
     → Reads password AfterLogon ps r (take n t) → marks ≡ heard_from table s (items_of password ps) ++ extra
-    → AreFor table (sent_of pages outcomes) (accepted_from table s (items_of password ps))
+    → AreForAll table (sent_of pages outcomes) (accepted_from table s (items_of password ps))
 sends_joined password table [] h marks outcomes t r s ps n extra closing sends joined reads heard =
-    subst (λ z. AreFor table [] z) (sym (leaves password table s ps r t n sends.1 reads)) tt
+    leaves password table s ps r t n sends.1 reads
 sends_joined password table (p ∷ pages) h marks outcomes t r s ps n extra closing (inl o) joined reads heard =
     let none = none_open password table p r extra h.0 (count_of (content p) - 1) 0 n (some_block p h.0) s [] marks ps refl o.undecided joined
     (subst (λ z. Reads password AfterLogon ps r (take n z)) o.said_is reads) heard in
@@ -334,24 +335,24 @@ sends_joined password table (p ∷ pages) h marks outcomes t r s ps n extra clos
     (subst (λ z. Reads password AfterLogon ps r (take n z)) (d.said_is ∙ append_assoc (block_at (content p) 0) (said_after (content p) 0 d.since) d.more) reads) (sym d.marks_are ∙ heard))
     (λ m sends. sends_joined password table pages h.1 d.rest d.others d.more r m.course m.others m.room extra closing sends m.joined m.reads m.heard)
   where
-    by_result : (u : Course) (os : List InputPiece) → ((d.outcome ≡ Sent) × ((a : Accepted) × IsFor table p a × (accepted_from table s (items_of password ps) ≡ a ∷ accepted_from table u (items_of password os))))
+    by_result : (u : Course) (os : List InputPiece) → ((d.outcome ≡ Sent) × ((own : List Accepted) × AreFor table p own × (accepted_from table s (items_of password ps) ≡ own ++ accepted_from table u (items_of password os))))
         ⊎ ((d.outcome ≡ Abandoned) × (accepted_from table s (items_of password ps) ≡ accepted_from table u (items_of password os)))
-        → (Sends pages d.rest d.others d.more → AreFor table (sent_of pages d.others) (accepted_from table u (items_of password os)))
-        → AreFor table (sent_of (p ∷ pages) outcomes) (accepted_from table s (items_of password ps))
+        → (Sends pages d.rest d.others d.more → AreForAll table (sent_of pages d.others) (accepted_from table u (items_of password os)))
+        → AreForAll table (sent_of (p ∷ pages) outcomes) (accepted_from table s (items_of password ps))
     by_result u os (inl (e, a)) again =
         let f : Sends pages d.rest d.others d.more = subst (λ o. Follows o pages (λ os more. Sends pages d.rest os more) d.others d.more) e d.follows in
         let q : outcomes ≡ Sent ∷ d.others = d.outcomes_are ∙ ap (λ o. o ∷ d.others) e in
-        subst (λ z. AreFor table (sent_of (p ∷ pages) z) (accepted_from table s (items_of password ps))) (sym q)
-        (subst (λ z. AreFor table (p ∷ sent_of pages d.others) z) (sym a.2) (a.1, again f))
+        subst (λ z. AreForAll table (sent_of (p ∷ pages) z) (accepted_from table s (items_of password ps))) (sym q)
+        (a.0, accepted_from table u (items_of password os), a.2, a.1, again f)
     by_result u os (inr (e, a)) again =
         let f : Sends pages d.rest d.others d.more = subst (λ o. Follows o pages (λ os more. Sends pages d.rest os more) d.others d.more) e d.follows in
         let q : outcomes ≡ Abandoned ∷ d.others = d.outcomes_are ∙ ap (λ o. o ∷ d.others) e in
-        subst (λ z. AreFor table (sent_of (p ∷ pages) z) (accepted_from table s (items_of password ps))) (sym q)
-        (subst (λ z. AreFor table (sent_of pages d.others) z) (sym a) (again f))
+        subst (λ z. AreForAll table (sent_of (p ∷ pages) z) (accepted_from table s (items_of password ps))) (sym q)
+        (subst (λ z. AreForAll table (sent_of pages d.others) z) (sym a) (again f))
 
     by_passage : Comes password table p s r d.more d.rest extra ps d.outcome
-        → ((m : IsPassed password table p s r d.more d.rest extra ps d.outcome) → Sends pages d.rest d.others d.more → AreFor table (sent_of pages d.others) (accepted_from table m.course (items_of password m.others)))
-        → AreFor table (sent_of (p ∷ pages) outcomes) (accepted_from table s (items_of password ps))
+        → ((m : IsPassed password table p s r d.more d.rest extra ps d.outcome) → Sends pages d.rest d.others d.more → AreForAll table (sent_of pages d.others) (accepted_from table m.course (items_of password m.others)))
+        → AreForAll table (sent_of (p ∷ pages) outcomes) (accepted_from table s (items_of password ps))
     by_passage (passed m) again = by_result m.course m.others m.result (again m)
     by_passage (ended e none) again =
         let f : (d.others ≡ all_are Disconnected pages) × (d.more ≡ []) = subst (λ o. Follows o pages (λ os more. Sends pages d.rest os more) d.others d.more) e d.follows in

@@ -5,11 +5,12 @@ use Rattle.tap_block.specs.declared.ends.End.TheVariants.{Etx, Etb, Us}
 use Rattle.tap_block.specs.Chars.{stx, end_char}
 use Rattle.tap_block.specs.Fields.{content_parts}
 use Rattle.tap_block.specs.Reading.{AfterLogon, InputPiece, line, skipped, lone_eot, bye, dropped, block, piece_text, Reads, IsTrailer, a_block, is_right, items_of}
-use Rattle.subscribers.specs.declared.subscriber.Subscriber.{Subscriber}
+use Rattle.subscribers.specs.Parts.{Target}
 use Rattle.tap_terminal.specs.declared.answers.Reason.TheVariants.{Room, Text, Body, Content}
 use Rattle.tap_terminal.specs.declared.answers.Answer.TheVariants.{Ack}
 use Rattle.page_text.specs.FitTest.{fits}
 use Rattle.page_pool.specs.Cells.{cells_for}
+use Rattle.page_pool.specs.Gains.{pages_to}
 use Rattle.subscribers.specs.Directory.{Directory}
 use Rattle.tap_terminal.specs.Verdict.{Verdict, refused, values_of, room_for, text_for, fields_for, by_end, verdict}
 use Rattle.tap_terminal.specs.declared.terminal.TheConstants.{LONGEST_CONTENT}
@@ -19,19 +20,19 @@ use Rattle.tap_terminal.specs.Replies.{reply_of, replies}
 abbrev IsShort : Verdict → Type 0
 IsShort v = length (reply_of v.answer) ≤ 2
 
-short_room : (s : Subscriber) (t : List ℕ) (spare : ℕ) → IsShort (room_for s t spare)
-short_room s t spare = by_test (nat_lt spare (cells_for (length t)))
+short_room : (t : Target) (text : List ℕ) (spare : ℕ) → IsShort (room_for t text spare)
+short_room t text spare = by_test (nat_lt spare (cells_for (length text) * length t.capcodes))
   where
-    by_test : (b : Bool) → IsShort (cond b (refused Room) (record { answer = Ack; joined = []; page = Some (record { capcode = s.capcode; function = s.function; text = t }) }))
+    by_test : (b : Bool) → IsShort (cond b (refused Room) (record { answer = Ack; joined = []; pages = pages_to t.capcodes t.function text }))
     by_test true = omega arith
     by_test false = omega arith
 
-short_text : (o : Option Subscriber) (t : List ℕ) (spare : ℕ) → IsShort (text_for o t spare)
-short_text None t spare = omega arith
-short_text (Some s) t spare = by_test (fits s.function t)
+short_text : (o : Option Target) (text : List ℕ) (spare : ℕ) → IsShort (text_for o text spare)
+short_text None text spare = omega arith
+short_text (Some t) text spare = by_test (fits t.function text)
   where
-    by_test : (b : Bool) → IsShort (cond b (room_for s t spare) (refused Text))
-    by_test true = short_room s t spare
+    by_test : (b : Bool) → IsShort (cond b (room_for t text spare) (refused Text))
+    by_test true = short_room t text spare
     by_test false = omega arith
 
 short_fields : (table : Directory) (spare : ℕ) (o : Option (List ℕ × List ℕ)) → IsShort (fields_for table spare o)

@@ -2,7 +2,6 @@
 use Rattle.std.proofs.Common.{◌≡◌, ℕ, ◌+◌, ◌<◌, List, [], ◌∷◌, ◌++◌, length, get_or, take, add-one, append_assoc, ap, sym, ◌∙◌}
 use Rattle.std.proofs.Math.Seq.{take-suc}
 use Rattle.std.proofs.lemmas.List.{map-append}
-use Rattle.std.specs.Option.{option_to_list}
 use Rattle.entry_line.specs.Chars.{char_of, cr}
 use Rattle.page_pool.specs.Pool.{Pool}
 use Rattle.subscribers.specs.Directory.{directory_of}
@@ -28,7 +27,7 @@ module _ (settings : Parts) (spare : ℕ) (old new : TerminalState) (before afte
       record {
         session = h.longer;
         stands = h.stands;
-        pages_are = gains_pages before after h.gained h.pool ∙ ap (λ l. l ++ option_to_list h.gained) fed.pages_are ∙ sym h.pages_are;
+        pages_are = gains_pages before after h.gained h.pool ∙ ap (λ l. l ++ h.gained) fed.pages_are ∙ sym h.pages_are;
       }
 
 -- the characters of a list, up to one more

@@ -1,6 +1,6 @@
 //! The pool and its calls.
 
-ghost use Rattle.std.specs.Prelude.{◌≡◌, ℕ, ◌<◌, ◌≤◌, ◌↔◌, length, drop, IsTrue, IsErr, OnOk, OnErr, IfOk, MatchOption, [], ◌++◌, slice_index};
+ghost use Rattle.std.specs.Prelude.{◌≡◌, ℕ, ◌*◌, ◌<◌, ◌≤◌, ◌↔◌, length, drop, IsTrue, IsErr, OnOk, OnErr, IfOk, MatchOption, [], ◌++◌, slice_index};
 ghost use Rattle.std.specs.List.{find};
 ghost use Rattle.std.specs.Option.{option_map};
 ghost use Rattle.page_text.specs.Fits.{Fits};
@@ -62,6 +62,7 @@ impl Model for Pool {
 }
 
 impl Pool {
+    ghost use Rattle.page_pool.specs.Gains.{Gains, pages_to};
     ghost use Rattle.page_pool.specs.Pool.{Live, page, Names, PutsPage, TakesPage, IsLive, Sound, cells, live_in_frame};
 
     /// A pool of so many cells, 1 to 65,536, without pages: all cells are spare. Memory comes only where there was none for the
@@ -132,6 +133,29 @@ impl Pool {
         self.count += 1;
         let start = replaced(ends.first, NONE, cell);
         set_ends(&mut self.frames, frame, start, cell);
+        Ok(())
+    }
+
+    /// Adds a page for each of these capcodes behind all others, in their order, all of them or none. The text fits the function. Full
+    /// exactly where it needs more cells for all capcodes than are spare; nothing changes then.
+    pub fn put_all(
+        &mut self,
+        capcodes: &[Capcode],
+        function: Function,
+        text: &[u8],
+    ) -> Result<(), Full>
+        requires { Fits function text.now }
+        ensures put { OnOk result (Gains self.old self.new (pages_to capcodes.now function text.now)) }
+        ensures full { IsErr result ↔ self.old.spare < cells_for (length text.now) * length capcodes.now }
+        ensures unchanged { OnErr result (self.new ≡ self.old) }
+    {
+        let pages = self.spare() / cells_for(text.len());
+        if (pages as usize) < capcodes.len() {
+            return Err(Full);
+        }
+        for capcode in capcodes {
+            let _ = self.put(*capcode, function, text);
+        }
         Ok(())
     }
 

@@ -119,6 +119,94 @@ fn a_full_pool_stays_as_it_is(rt: HostRuntime) -> Result<(), Fail> {
     Ok(())
 }
 
+/// Puts an alphanumeric page to each of these numbers, and says whether there was room for all. None where there are no such pages.
+fn put_all(
+    alloc: Global,
+    pool: &mut Pool,
+    numbers: &[u32],
+    text: &[u8],
+) -> Result<Option<bool>, AllocError> {
+    let mut capcodes = Vec::new(alloc);
+    for number in numbers {
+        let Some(capcode) = Capcode::of(*number) else {
+            return Ok(None);
+        };
+        capcodes.push(capcode)?;
+    }
+    if fits(Function::Alpha, text).is_err() {
+        return Ok(None);
+    }
+    Ok(Some(pool.put_all(&capcodes, Function::Alpha, text).is_ok()))
+}
+
+// Sixteen capcodes want a cell each, and fifteen are spare. Texts of two cells fill fourteen of them.
+#[test]
+fn pages_without_room_for_all_are_not_put(rt: HostRuntime) -> Result<(), Fail> {
+    let numbers = [8, 9, 10, 11, 12, 13, 14, 15, 16, 17, 18, 19, 20, 21, 22, 23];
+    let mut pool = Pool::new(rt.alloc(), 15)?;
+    assert_eq!(rt;
+        put_all(rt.alloc(), &mut pool, &numbers, b"A")?,
+        Some(false)
+    );
+    assert_eq!(rt; (pool.count(), pool.spare()), (0, 15));
+    assert_eq!(rt;
+        put_all(rt.alloc(), &mut pool, &numbers[..8], &[b'A'; 33])?,
+        Some(false)
+    );
+    assert_eq!(rt; (pool.count(), pool.spare()), (0, 15));
+    assert_eq!(rt;
+        put_all(rt.alloc(), &mut pool, &numbers[..7], &[b'A'; 33])?,
+        Some(true)
+    );
+    assert_eq!(rt; (pool.count(), pool.spare()), (7, 1));
+    pool.clear();
+    assert_eq!(rt;
+        put_all(rt.alloc(), &mut pool, &numbers[1..], b"A")?,
+        Some(true)
+    );
+    assert_eq!(rt; (pool.count(), pool.spare()), (15, 0));
+    Ok(())
+}
+
+// Three capcodes of one frame, behind a page that was put before.
+#[test]
+fn pages_are_put_in_the_order_of_their_capcodes(rt: HostRuntime) -> Result<(), Fail> {
+    let mut pool = Pool::new(rt.alloc(), 4)?;
+    assert_eq!(rt; put(&mut pool, 24, b"before"), Some(true));
+    assert_eq!(rt;
+        put_all(rt.alloc(), &mut pool, &[2000, 8, 16], b"all")?,
+        Some(true)
+    );
+    assert_eq!(rt; pool.spare(), 0);
+    for (number, text) in [
+        (24, b"before".as_slice()),
+        (2000, b"all"),
+        (8, b"all"),
+        (16, b"all"),
+    ] {
+        let found = page(rt.alloc(), &pool, 0)?;
+        assert!(rt;
+            found.is_some_and(|page| page.capcode.number() == number
+                && page.text.as_slice() == text),
+            "capcode {number}"
+        );
+        assert!(rt; take(&mut pool, 0), "capcode {number}");
+    }
+    assert_eq!(rt; (pool.count(), pool.spare()), (0, 4));
+    Ok(())
+}
+
+#[test]
+fn no_capcodes_need_no_room(rt: HostRuntime) -> Result<(), Fail> {
+    let mut pool = Pool::new(rt.alloc(), 1)?;
+    assert_eq!(rt; put_all(rt.alloc(), &mut pool, &[], b"A")?, Some(true));
+    assert_eq!(rt; (pool.count(), pool.spare()), (0, 1));
+    assert_eq!(rt; put(&mut pool, 8, b"A"), Some(true));
+    assert_eq!(rt; put_all(rt.alloc(), &mut pool, &[], b"A")?, Some(true));
+    assert_eq!(rt; (pool.count(), pool.spare()), (1, 0));
+    Ok(())
+}
+
 /// A call on both pools: `Take` takes out the first page of a frame.
 #[derive(Clone, Copy)]
 enum Call<'a> {

@@ -4,6 +4,7 @@ use Rattle.std.specs.Prelude.{if◌then◌else◌}
 use Rattle.std.specs.Borrow.{GName}
 use Rattle.air.specs.Sends.{SendsTransmission}
 use Rattle.bits.specs.Bits.{bytes_bits}
+use Rattle.endings.proofs.OneBytes.{told_back}
 use Rattle.page_pool.specs.Pool.{Pool, cells, pages}
 use Rattle.wires.proofs.Below.{file_keeps}
 use Rattle.wires.proofs.Written.{and_both, and_one}
@@ -22,11 +23,6 @@ name_of _ = []
 abbrev are_told : List Held → Bool
 are_told (Lent n ∷ Bytes b ∷ ls) = b
 are_told _ = true
-
-pub told_back : (b c x y : Bool) → c ≡ b → IsTrue b → (if c then y else true) ≡ (if b then x else true) → y ≡ x
-told_back true true x y e t h = h
-told_back true false x y e t h = absurd cc
-told_back false c x y e t h = absurd cc
 
 -- what was written over a file was appended to it
 pub sends_to : {T E : Type 0} (n m a b : GName) (name name2 : List ℕ) (old new : Files) (before after : Pool) (r : Result T E)

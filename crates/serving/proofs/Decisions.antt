@@ -3,8 +3,7 @@ use Rattle.std.proofs.Common.{◌≡◌, ℕ, ◌≤◌, Bool, true, false, ◌|
 use Rattle.std.proofs.lemmas.Bool.{cases_lt}
 use Rattle.std.proofs.lemmas.List.{length-map, map-append}
 use Rattle.std.proofs.lemmas.List.Folds.{list_any-append}
-use Rattle.std.specs.Option.{option_to_list}
-use Rattle.page_pool.specs.Pool.{Live, Pool, pages}
+use Rattle.page_pool.specs.Pool.{Pool, pages}
 use Rattle.page_text.specs.Page.{Page}
 use Rattle.subscribers.specs.Parts.{Parts}
 use Rattle.entry_line.specs.Chars.{char_of}
@@ -13,12 +12,13 @@ use Rattle.tap_block.specs.Reading.{items_of}
 use Rattle.tap_block.proofs.Characters.{characters_on}
 use Rattle.tap_terminal.proofs.Feeds.{stands_session}
 use Rattle.tap_terminal.proofs.Sessions.{too_long}
+use Rattle.tap_terminal.proofs.Verdicts.{gains_pages}
 use Rattle.tap_terminal.specs.declared.answers.Answer.{Answer}
 use Rattle.tap_terminal.specs.declared.answers.Answer.TheVariants.{Ack, End, Go, Id, Nak, Nothing, Rs}
 use Rattle.subscribers.specs.Directory.{directory_of}
 use Rattle.tap_terminal.specs.declared.terminal.Stage.{Stage}
 use Rattle.tap_terminal.specs.declared.terminal.Stage.TheVariants.{Open, Ended, Forced}
-use Rattle.tap_terminal.specs.State.{TerminalState, GainsIfAny, HearsOn, Stands, StandsAt, said}
+use Rattle.tap_terminal.specs.State.{TerminalState, HearsOn, Stands, StandsAt, said}
 use Rattle.tap_terminal.specs.Replies.{reply_of}
 use Rattle.std.specs.Prelude.{flat_map}
 use Rattle.tap_terminal.specs.Session.{IsSession, Session, ItemDecided, answers_of, closing, has_end as told_end, is_end, is_too_long, start, tell}
@@ -78,19 +78,12 @@ has_end-said (Rs reason) h = refl
 pub no_end_on : (s t : Session) (a : Answer) → t.answers ≡ s.answers ++ said a → has_end_answer s.answers ≡ false → is_end a ≡ false → has_end_answer t.answers ≡ false
 no_end_on s t a e h k = ap has_end_answer e ∙ (list_any-append is_end s.answers (said a) ∙ (ap (λ (b : Bool). b || has_end_answer (said a)) h ∙ has_end-said a k))
 
--- the pages of a pool that gained a page or none
-pages_gain : (old new : Pool) (gained : Option Page) → GainsIfAny old new gained → pages new ≡ pages old ++ option_to_list gained
-pages_gain old new None h = ap pages h ∙ sym (append-nil (pages old))
-pages_gain old new (Some page) h =
-    ap (λ (es : List Live). map (λ (e : Live). e.page) es) h.at_end
-    ∙ (map-append (λ (e : Live). e.page) old.live (h.entry ∷ []) ∙ ap (λ (p : Page). pages old ++ p ∷ []) h.is)
-
 -- the pages since the beginning
 pub pages_on : (settings : Parts) (spare : ℕ) (before pool pool2 : Pool) (desk : TerminalState) (bytes : List ℕ) (byte : ℕ) (session : Session) (a : Answer) → pages pool ≡ pages before ++ session.pages
     → (h : TapFed settings spare desk bytes byte session a pool pool2) → pages pool2 ≡ pages before ++ h.longer.pages
 pages_on settings spare before pool pool2 desk bytes byte session a e h =
-    pages_gain pool pool2 h.gained h.pool
-    ∙ (ap (λ (z : List Page). z ++ option_to_list h.gained) e ∙ (append_assoc (pages before) session.pages (option_to_list h.gained) ∙ ap (λ (z : List Page). pages before ++ z) (sym h.pages_are)))
+    gains_pages pool pool2 h.gained h.pool
+    ∙ (ap (λ (z : List Page). z ++ h.gained) e ∙ (append_assoc (pages before) session.pages h.gained ∙ ap (λ (z : List Page). pages before ++ z) (sym h.pages_are)))
 
 -- two tests of which none holds
 neither : (a b : Bool) → (a || b) ≡ false → (a ≡ false) × (b ≡ false)

@@ -4,7 +4,6 @@ use Rattle.std.proofs.lemmas.Grind.{flat_map-append}
 use Rattle.std.proofs.lemmas.List.{map-append}
 use Rattle.std.proofs.lemmas.List.Folds.{list_any-append}
 use Rattle.std.specs.List.{list_any}
-use Rattle.std.specs.Option.{option_to_list}
 use Rattle.std.specs.Prelude.{flat_map, if◌then◌else◌}
 use Rattle.entry_line.specs.Chars.{char_of}
 use Rattle.page_pool.proofs.Lists.{in_use-append}
@@ -19,9 +18,10 @@ use Rattle.snpp_entry.specs.Replies.{snpp_replies, snpp_reply}
 use Rattle.snpp_entry.specs.Session.{SnppSession, is_for_length, session as snpp_session}
 use Rattle.tap_block.specs.Chars.{characters}
 use Rattle.tap_terminal.proofs.Fronts.{fronts, session_exists}
+use Rattle.tap_terminal.proofs.Verdicts.{gains_pages}
 use Rattle.tap_terminal.specs.declared.answers.Answer.{Answer}
 use Rattle.tap_terminal.specs.Session.{IsSession, Session, is_end}
-use Rattle.tap_terminal.specs.State.{GainsIfAny, TerminalState}
+use Rattle.tap_terminal.specs.State.{TerminalState}
 use Rattle.tap_terminal.specs.Replies.{replies, reply_of}
 use Rattle.wires.specs.Held.{Connection}
 use Rattle.serving.proofs.Decisions.{TapFed, ended_stays, few_heard, has_end-said, session_stood, stands_on, tap_one, tap_reply-said, tap_silent}
@@ -72,47 +72,24 @@ open_on p s t a e h k =
 
 -- ---- pages and cells
 
-pages_gain : (old new : Pool) (gained : List Page) → Gains old new gained → pages new ≡ pages old ++ gained
-pages_gain old new [] h = ap pages h ∙ sym (append-nil (pages old))
-pages_gain old new (page ∷ gained) h =
-    let mid = h.0 in
-    let one : pages mid ≡ pages old ++ page ∷ [] =
-    ap (λ (es : List Live). map (λ (e : Live). e.page) es) (h.1).at_end
-    ∙ (map-append (λ (e : Live). e.page) old.live ((h.1).entry ∷ []) ∙ ap (λ (q : Page). pages old ++ q ∷ []) (h.1).is) in
-    pages_gain mid new gained h.2 ∙ (ap (λ (z : List Page). z ++ gained) one ∙ append_assoc (pages old) (page ∷ []) gained)
-
--- the cells stay
-pub cells_stay : (old new : Pool) (gained : List Page) → Gains old new gained → cells new ≡ cells old
-cells_stay old new [] h = ap cells h
-cells_stay old new (page ∷ gained) h =
-    let mid = h.0 in
-    let one : in_use mid.live ≡ in_use old.live + cells_of (h.1).entry.page = (let e = in_use-append old.live ((h.1).entry ∷ []) in omega (arith, e, ap in_use (h.1).at_end)) in
-    let two : cells_of (h.1).entry.page ≡ cells_of page = ap cells_of (h.1).is in
-    cells_stay mid new gained h.2 ∙ omega (arith, one, two, (h.1).spare)
-
 -- the pages since the beginning
 pub pages_on : (p : Protocol) (settings : Parts) (spare : ℕ) (before pool pool2 : Pool) (state : StateIn p) (bytes : List ℕ) (byte : ℕ) (session : SessionIn p) (reply : List ℕ) (end : Option SessionEnd) → pages pool ≡ pages before ++ queued_in p session
     → (h : Fed p settings spare state bytes byte session reply end pool pool2) → pages pool2 ≡ pages before ++ queued_in p h.longer
 pages_on p settings spare before pool pool2 state bytes byte session reply end e h =
-    pages_gain pool pool2 h.gained h.pool
+    gains_pages pool pool2 h.gained h.pool
     ∙ (ap (λ (z : List Page). z ++ h.gained) e ∙ (append_assoc (pages before) (queued_in p session) h.gained ∙ ap (λ (z : List Page). pages before ++ z) (sym h.pages_are)))
-
--- the pool gained a page or none
-gains_any : (old new : Pool) (gained : Option Page) → GainsIfAny old new gained → Gains old new (option_to_list gained)
-gains_any old new None h = h
-gains_any old new (Some page) h = (new, h, refl)
 
 -- the terminal was fed one byte more
 pub tap_fed : (settings : Parts) (spare : ℕ) (state : TerminalState) (bytes : List ℕ) (byte : ℕ) (session : Session) (answer : Answer) (before after : Pool) (reply : List ℕ) (end : Option SessionEnd)
     → (h : TapFed settings spare state bytes byte session answer before after) → reply ≡ reply_of answer → end ≡ (if is_end answer then Some (end_decided h.longer.forced) else None) → Fed tap settings spare state bytes byte session reply end before after
 tap_fed settings spare state bytes byte session answer before after reply end h said ends = record {
   longer = h.longer;
-  gained = option_to_list h.gained;
+  gained = h.gained;
   answer = answer;
   stands = stands_on settings spare state bytes byte session answer before after h;
   answers_are = h.answers_are;
   pages_are = h.pages_are;
-  pool = gains_any before after h.gained h.pool;
+  pool = h.pool;
   reply_is = said;
   end_is = ends;
 }

@@ -11,7 +11,8 @@ use Rattle.serving.specs.Protocols.{IsSessionIn, Protocol, SessionIn, StateIn, e
 use Rattle.serving.specs.Sessions.{Fed, HasRoomForReplies, IsTurn, SessionUnderWay}
 use Rattle.wires.specs.Fronts.{IsFront}
 use Rattle.endings.specs.Talk.{Calm, Talked, here}
-use Rattle.serving.proofs.Protocols.{cells_stay, fits_front, open_on, pages_on, session_in, silent_goes, spoken_on}
+use Rattle.tap_terminal.proofs.Cells.{cells_gain}
+use Rattle.serving.proofs.Protocols.{fits_front, open_on, pages_on, session_in, silent_goes, spoken_on}
 use Rattle.wires.proofs.Fronts.{front_append, front_same, front_then, splice}
 use Rattle.endings.proofs.Lists.{all-append, all-map}
 use Rattle.endings.proofs.Talks.{calm_hears, calm_says, talked_hears, talked_says}
@@ -49,7 +50,7 @@ answered p settings spare old mid now before pool pool2 state state2 byte heard 
       stands = h.stands;
       no_end = open_on p u.session h.longer h.answer h.answers_are u.no_end e;
       pages_are = pages_on p settings spare before pool pool2 state2 u.fed byte u.session reply end u.pages_are h;
-      cells_stay = cells_stay pool pool2 h.gained h.pool ∙ u.cells_stay;
+      cells_stay = cells_gain pool pool2 h.gained h.pool ∙ u.cells_stay;
       line = subst (λ (z : List ℕ). Talked old now heard z u.turns) (sym says) t;
       calm = subst (λ (z : List ℕ). Calm old now z) (sym says) m;
       turns_are = turns_on p settings spare (here old) heard (spoken p u.session) heard (spoken p h.longer) u.turns

@@ -13,7 +13,8 @@ use Rattle.serving.specs.declared.session.SessionEnd.TheVariants.{HungUp, LineLo
 use Rattle.serving.specs.Protocols.{AnswerIn, Protocol, SessionIn, StandsIn, StateIn, answers_in, end_in, greeting_in, has_last, is_last, queued_in, said_in, snpp, spoken, tap, unheard_in}
 use Rattle.serving.specs.Sessions.{Fed, HasRoomForReplies, GoesOn, IsAnsweredLast, Ran, SessionStop, SessionStops, SessionUnderWay, hear_failed as is_deaf, say_failed as is_mute, silent as is_silent, told as is_told, ungreeted as is_ungreeted}
 use Rattle.endings.specs.Talk.{Calm, Grew, Talked, here}
-use Rattle.serving.proofs.Protocols.{cells_stay, few_bytes, fits_front, not_lost, one_said, pages_on, session_in}
+use Rattle.tap_terminal.proofs.Cells.{cells_gain}
+use Rattle.serving.proofs.Protocols.{few_bytes, fits_front, not_lost, one_said, pages_on, session_in}
 use Rattle.wires.proofs.Fronts.{front_append, front_same}
 use Rattle.serving.proofs.Steps.{all_fed, fits_now, heard_rest, none_goes, says_on, turns_on}
 use Rattle.endings.proofs.Talks.{calm_hears, calm_nothing, calm_says, no_cut, no_deaf, talked_cut, talked_deaf, talked_nothing, talked_says, talked_silent}
@@ -169,7 +170,7 @@ told {T} {E} p settings spare old mid now before pool pool2 state state2 byte he
       session_is = session_in p settings spare state2 (u.fed ++ byte ∷ []) h.longer pool2.spare h.stands;
       stands = h.stands;
       pages_are = pages_on p settings spare before pool pool2 state2 u.fed byte u.session reply end u.pages_are h;
-      cells_stay = cells_stay pool pool2 h.gained h.pool ∙ u.cells_stay;
+      cells_stay = cells_gain pool pool2 h.gained h.pool ∙ u.cells_stay;
       line = talked_says {T = T} {E = E} old mid now heard (spoken p u.session) u.turns reply x u.line u.open_stays s;
       turns_are = turns_on p settings spare (here old) heard (spoken p u.session) heard (spoken p u.session ++ reply) u.turns
           (front_same heard) (front_append (spoken p u.session) reply) u.turns_are;
@@ -207,7 +208,7 @@ say_failed {T} {E} p settings spare old mid now before pool pool2 state state2 b
       session_is = session_in p settings spare state2 (u.fed ++ byte ∷ []) h.longer pool2.spare h.stands;
       stands = h.stands;
       pages_are = pages_on p settings spare before pool pool2 state2 u.fed byte u.session reply end u.pages_are h;
-      cells_stay = cells_stay pool pool2 h.gained h.pool ∙ u.cells_stay;
+      cells_stay = cells_gain pool pool2 h.gained h.pool ∙ u.cells_stay;
       line = k.2;
       turns_are = turns_on p settings spare (here old) heard (spoken p u.session) heard (spoken p u.session ++ take k.0 reply) u.turns
           (front_same heard) (front_append (spoken p u.session) (take k.0 reply)) u.turns_are;

@@ -26,6 +26,8 @@ mod session_tests;
 mod snpp_tests;
 mod talking;
 pub mod trial;
+#[cfg(test)]
+mod trial_tests;
 
 pub use sending::SentTwice;
 pub use session::{SessionEnd, Station};

@@ -1,12 +1,17 @@
 //! Connections that are served one after another, over a wire, a shelf and an output in memory.
 
-use crate::session_tests::{ONE_PAGE, TWO, station};
+use crate::session::Station;
+use crate::session_tests::{ONE_PAGE, Protocol, TWO, station};
 use endings::statuses::Status;
 use std::alloc::{AllocError, Global};
+use std::process::Abort;
 use std::test::Fail;
 use wires::fake_shelf::MemoryShelf;
 use wires::fake_wire::MemoryWire;
 use wires::fakes::MemorySink;
+use wires::shelf::Shelf;
+use wires::sink::Sink;
+use wires::wire::Wire;
 
 /// A logon, a block to an id that no subscriber has, and goodbye.
 const UNKNOWN: &[u8] = b"\r\x1BPG1\r\x02999\rX\r\x03122\r\x04\r";
@@ -14,16 +19,16 @@ const UNKNOWN: &[u8] = b"\r\x1BPG1\r\x02999\rX\r\x03122\r\x04\r";
 /// What is heard on each connection, how many are to be served, the calls of the wire, of the shelf and of the output that fail, and
 /// then the status, how many bytes of the transmissions the file has, and the lines. The calls of a wire with one page are `listen`,
 /// `next`, a `hear`, three times `say`, a `hear`, `say`, and `hang_up`. Those of the shelf are `fresh`, and for each page two `append`.
-struct Case {
-    name: &'static str,
-    heard: &'static [&'static [u8]],
-    count: u32,
-    wire: &'static [u64],
-    shelf: &'static [u64],
-    out: &'static [u64],
-    status: Status,
-    file: Option<usize>,
-    lines: &'static [u8],
+pub(crate) struct Case {
+    pub(crate) name: &'static str,
+    pub(crate) heard: &'static [&'static [u8]],
+    pub(crate) count: u32,
+    pub(crate) wire: &'static [u64],
+    pub(crate) shelf: &'static [u64],
+    pub(crate) out: &'static [u64],
+    pub(crate) status: Status,
+    pub(crate) file: Option<usize>,
+    pub(crate) lines: &'static [u8],
 }
 
 const CASES: [Case; 12] = [
@@ -162,7 +167,7 @@ const CASES: [Case; 12] = [
 ];
 
 /// So many bytes of the transmission of `HELLO` to capcode 8, and of the same once more.
-pub(crate) fn airs(alloc: Global, size: usize) -> Result<Vec<u8>, AllocError> {
+fn airs(alloc: Global, size: usize) -> Result<Vec<u8>, AllocError> {
     let mut air = Vec::new(alloc);
     for _ in 0..2 {
         for _ in 0..72 {
@@ -179,34 +184,97 @@ pub(crate) fn airs(alloc: Global, size: usize) -> Result<Vec<u8>, AllocError> {
     Ok(air)
 }
 
-#[test]
-fn connections_are_served_sent_and_reported(rt: HostRuntime) -> Result<(), Fail> {
-    for case in &CASES {
+/// What the connections leave: the status, the lines, and the file of the transmissions.
+#[derive(Drop)]
+pub(crate) struct ServingLeft {
+    status: Status,
+    lines: Vec<u8>,
+    air: Option<Vec<u8>>,
+}
+
+/// The bytes that are heard on each connection.
+fn owned(alloc: Global, heard: &[&[u8]]) -> Result<Vec<Vec<u8>>, AllocError> {
+    let mut connections = Vec::new(alloc);
+    for bytes in heard {
+        connections.push(Vec::from_slice(alloc, *bytes)?)?;
+    }
+    Ok(connections)
+}
+
+/// The bytes of a file, where it is there.
+fn file_in(alloc: Global, shelf: &MemoryShelf) -> Result<Option<Vec<u8>>, AllocError> {
+    match shelf.bytes("air.bin") {
+        Some(bytes) => Ok(Some(Vec::from_slice(alloc, bytes)?)),
+        None => Ok(None),
+    }
+}
+
+/// Serves the connections of a case over these objects.
+fn serve<W: Wire, F: Shelf, O: Sink>(
+    station: &mut Station,
+    protocol: Protocol,
+    count: u32,
+    wire: &mut W,
+    shelf: &mut F,
+    out: &mut O,
+) -> Status {
+    let address = "127.0.0.1:7000";
+    match protocol {
+        Protocol::Tap => station.serve(wire, shelf, address, "air.bin", count, out),
+        Protocol::Snpp => station.serve_snpp(wire, shelf, address, "air.bin", count, out),
+    }
+}
+
+/// Serves the connections of a case, on which so many bytes can be said.
+pub(crate) fn served(
+    alloc: Global,
+    protocol: Protocol,
+    room: usize,
+    case: &Case,
+) -> Result<ServingLeft, Fail> {
+    let mut station = station(alloc, TWO)?;
+    let heard = owned(alloc, case.heard)?;
+    let mut wire = MemoryWire::new(alloc, &heard, 26, room, case.wire)?;
+    let mut shelf = MemoryShelf::new(alloc, &[], 280, case.shelf)?;
+    let mut out = MemorySink::new(alloc, 400, case.out)?;
+    let status = serve(
+        &mut station,
+        protocol,
+        case.count,
+        &mut wire,
+        &mut shelf,
+        &mut out,
+    );
+    Ok(ServingLeft {
+        status,
+        lines: Vec::from_slice(alloc, out.bytes())?,
+        air: file_in(alloc, &shelf)?,
+    })
+}
+
+/// Compares what each case says with what its connections leave.
+pub(crate) fn compare(
+    rt: &impl Abort,
+    alloc: Global,
+    protocol: Protocol,
+    room: usize,
+    cases: &[Case],
+) -> Result<(), Fail> {
+    for case in cases {
         let name = case.name;
-        let mut station = station(rt.alloc(), TWO)?;
-        let mut heard = Vec::new(rt.alloc());
-        for bytes in case.heard {
-            heard.push(Vec::from_slice(rt.alloc(), *bytes)?)?;
-        }
-        let mut wire = MemoryWire::new(rt.alloc(), &heard, 26, 14, case.wire)?;
-        let mut shelf = MemoryShelf::new(rt.alloc(), &[], 280, case.shelf)?;
-        let mut out = MemorySink::new(rt.alloc(), 400, case.out)?;
-        let status = station.serve(
-            &mut wire,
-            &mut shelf,
-            "127.0.0.1:7000",
-            "air.bin",
-            case.count,
-            &mut out,
-        );
-        assert_eq!(rt; status, case.status, "{name}");
-        assert_eq!(rt; out.bytes(), case.lines, "{name}");
-        let air = shelf.bytes("air.bin");
-        assert_eq!(rt; air.map(|bytes| bytes.len()), case.file, "{name}");
-        if let Some(bytes) = air {
-            let whole = airs(rt.alloc(), bytes.len())?;
-            assert_eq!(rt; bytes, whole.as_slice(), "{name}");
-        }
+        let served = served(alloc, protocol, room, case)?;
+        assert_eq!(rt; served.status, case.status, "{name}");
+        assert_eq!(rt; served.lines.as_slice(), case.lines, "{name}");
+        let size = served.air.as_ref().map(|bytes| bytes.len());
+        assert_eq!(rt; size, case.file, "{name}");
+        let air = airs(alloc, case.file.unwrap_or(0))?;
+        let bytes = served.air.as_deref().unwrap_or(&[]);
+        assert_eq!(rt; bytes, air.as_slice(), "{name}");
     }
     Ok(())
+}
+
+#[test]
+fn connections_are_served_sent_and_reported(rt: HostRuntime) -> Result<(), Fail> {
+    compare(&rt, rt.alloc(), Protocol::Tap, 14, &CASES)
 }

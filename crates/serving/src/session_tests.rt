@@ -1,5 +1,5 @@
 //! A session over a wire in memory, in every cut, and sessions whose line fails. `vectors` has the worked sessions.
-ghost use Rattle.std.specs.Prelude.{◌≡◌};
+ghost use Rattle.std.specs.Prelude.{◌≡◌, ◌<◌};
 
 use crate::session::{SessionEnd, Station};
 use std::alloc::Global;
@@ -51,36 +51,95 @@ pub(crate) fn station(alloc: Global, file: &[u8]) -> Result<Station, Fail> {
     }
 }
 
+/// The protocol of an entry line.
+#[derive(Clone, Copy)]
+pub(crate) enum Protocol {
+    Tap,
+    Snpp,
+}
+
 /// The session of the next connection.
-fn play<W: Wire>(station: &mut Station, wire: &mut W) -> Result<SessionEnd, Failed>
+fn play<W: Wire>(
+    station: &mut Station,
+    protocol: Protocol,
+    wire: &mut W,
+) -> Result<SessionEnd, Failed>
     ensures { (W.state wire.new).count ≡ (W.state wire.old).count }
 {
     if !wire.next()? {
         return Err(Failed);
     }
-    Ok(station.session(wire))
+    Ok(match protocol {
+        Protocol::Tap => station.session(wire),
+        Protocol::Snpp => station.snpp_session(wire),
+    })
+}
+
+/// What a session leaves: its end, what was said, how many bytes were heard and said each time that something was heard, the pages in the
+/// pool, and those of the report.
+#[derive(Drop)]
+pub(crate) struct Left {
+    pub(crate) end: SessionEnd,
+    pub(crate) said: Vec<u8>,
+    pub(crate) turns: Vec<(u64, u64)>,
+    pub(crate) pages: u32,
+    pub(crate) reported: u32,
+}
+
+/// Holds one session of a station with two subscribers. The bytes are heard in pieces of so many at most, as many can be said as the room,
+/// and these calls of the wire fail.
+pub(crate) fn held(
+    alloc: Global,
+    protocol: Protocol,
+    heard: &[u8],
+    cut: usize,
+    room: usize,
+    failing: &[u64],
+) -> Result<Left, Fail>
+    requires { 0 < cut }
+{
+    let mut station = station(alloc, TWO)?;
+    let heard = [Vec::from_slice(alloc, heard)?];
+    let mut wire = MemoryWire::new(alloc, &heard, cut, room, failing)?;
+    let Ok(end) = play(&mut station, protocol, &mut wire) else {
+        return Err(Fail::from("no connection came"));
+    };
+    Ok(Left {
+        end,
+        said: Vec::from_slice(alloc, wire.said(0))?,
+        turns: Vec::from_slice(alloc, wire.turns(0))?,
+        pages: station.pages(),
+        reported: station.report().pages,
+    })
+}
+
+/// Whether each time that something was heard so many bytes had been said as this table says, the last first.
+pub(crate) fn are_owed(turns: &[(u64, u64)], table: &[(u64, u64)]) -> bool {
+    for (heard, said) in turns {
+        if said_by(table, *heard) != Some(*said) {
+            return false;
+        }
+    }
+    true
+}
+
+/// How many bytes are said once so many were heard.
+fn said_by(table: &[(u64, u64)], heard: u64) -> Option<u64> {
+    for (from, said) in table {
+        if *from <= heard {
+            return Some(*said);
+        }
+    }
+    None
 }
 
 #[test]
 fn each_reply_is_said_before_more_is_heard(rt: HostRuntime) -> Result<(), Fail> {
     for cut in 1..=ONE_PAGE.len() {
-        let mut station = station(rt.alloc(), TWO)?;
-        let heard = [Vec::from_slice(rt.alloc(), ONE_PAGE)?];
-        let mut wire = MemoryWire::new(rt.alloc(), &heard, cut, 14, &[])?;
-        assert_eq!(rt;
-            play(&mut station, &mut wire),
-            Ok(SessionEnd::Ended),
-            "cut {cut}"
-        );
-        assert_eq!(rt;
-            wire.turns(0).len(),
-            ONE_PAGE.len().div_ceil(cut),
-            "cut {cut}"
-        );
-        for (heard, said) in wire.turns(0) {
-            let owed = OWED.iter().find(|row| row.0 <= *heard);
-            assert_eq!(rt; owed.map(|row| row.1), Some(*said), "cut {cut}");
-        }
+        let left = held(rt.alloc(), Protocol::Tap, ONE_PAGE, cut, 14, &[])?;
+        assert_eq!(rt; left.end, SessionEnd::Ended, "cut {cut}");
+        assert_eq!(rt; left.turns.len(), ONE_PAGE.len().div_ceil(cut), "cut {cut}");
+        assert!(rt; are_owed(&left.turns, &OWED), "cut {cut}");
     }
     Ok(())
 }
@@ -88,23 +147,28 @@ fn each_reply_is_said_before_more_is_heard(rt: HostRuntime) -> Result<(), Fail> 
 #[test]
 fn a_line_that_fails_is_told(rt: HostRuntime) -> Result<(), Fail> {
     for (call, said, end, pages) in &FAILING {
-        let mut station = station(rt.alloc(), TWO)?;
-        let heard = [Vec::from_slice(rt.alloc(), ONE_PAGE)?];
-        let mut wire = MemoryWire::new(rt.alloc(), &heard, 26, 14, &[*call])?;
-        assert_eq!(rt; play(&mut station, &mut wire), Ok(*end), "call {call}");
-        assert_eq!(rt; wire.said(0), *said, "call {call}");
-        assert_eq!(rt; station.pages(), *pages, "call {call}");
-        assert_eq!(rt; station.report().pages, *pages, "call {call}");
+        let left = held(rt.alloc(), Protocol::Tap, ONE_PAGE, 26, 14, &[*call])?;
+        assert_eq!(rt; left.end, *end, "call {call}");
+        assert_eq!(rt; left.said.as_slice(), *said, "call {call}");
+        assert_eq!(rt; left.pages, *pages, "call {call}");
+        assert_eq!(rt; left.reported, *pages, "call {call}");
     }
     Ok(())
 }
 
+/// What is said at the end of a session of more than a million letters x.
+const TOO_LONG: [(Protocol, &[u8]); 2] = [
+    (Protocol::Tap, b"\x1B\x04\r"),
+    (Protocol::Snpp, b"220 pocsag\r\n421 too long\r\n"),
+];
+
 #[test]
 fn the_millionth_character_ends_a_session(rt: HostRuntime) -> Result<(), Fail> {
-    let mut station = station(rt.alloc(), TWO)?;
-    let heard = [vec![in rt.alloc(); b'x'; 1_000_001]?];
-    let mut wire = MemoryWire::new(rt.alloc(), &heard, 4096, 3, &[])?;
-    assert_eq!(rt; play(&mut station, &mut wire), Ok(SessionEnd::Forced));
-    assert_eq!(rt; wire.said(0), b"\x1B\x04\r".as_slice());
+    let heard = vec![in rt.alloc(); b'x'; 1_000_001]?;
+    for (protocol, said) in &TOO_LONG {
+        let left = held(rt.alloc(), *protocol, &heard, 4096, said.len(), &[])?;
+        assert_eq!(rt; left.end, SessionEnd::Forced);
+        assert_eq!(rt; left.said.as_slice(), *said);
+    }
     Ok(())
 }

@@ -5,9 +5,11 @@ use Rattle.std.proofs.lemmas.List.{length-take, length-map}
 use Rattle.std.proofs.lemmas.List.Sums.{sum_by-append, sum_by-cons}
 use Rattle.std.specs.List.{sum_by}
 use Rattle.entry_line.specs.Chars.{last_character, lf}
+use Rattle.std.proofs.Math.Nat.{mul-suc, mul-zero}
+use Rattle.codeword.specs.declared.functions.Function.{Function}
 use Rattle.page_text.specs.Page.{Page}
 use Rattle.page_pool.specs.Cells.{cells_for, cells_of}
-use Rattle.page_pool.specs.Gains.{cells_of_all}
+use Rattle.page_pool.specs.Gains.{cells_of_all, pages_to}
 use Rattle.subscribers.specs.Directory.{Directory}
 use Rattle.snpp_entry.specs.declared.answers.SnppAnswer.{SnppAnswer}
 use Rattle.snpp_entry.specs.declared.answers.SnppAnswer.TheVariants.{Nothing, Ok, Bye, TooLong, Command, Twice, Missing, Pager, Text, Room}
@@ -23,10 +25,15 @@ cells_sum : (pages : List Page) → cells_of_all pages ≡ sum_by cells_of pages
 cells_sum [] = refl
 cells_sum (page ∷ pages) = ap (λ (n : ℕ). cells_of page + n) (cells_sum pages) ∙ sym (sum_by-cons cells_of page pages)
 
+-- a page for each of these capcodes
+cells_to : (capcodes : List ℕ) (function : Function) (text : List ℕ) → cells_of_all (pages_to capcodes function text) ≡ cells_for (length text) * length capcodes
+cells_to [] function text = sym (mul-zero (cells_for (length text)))
+cells_to (c ∷ cs) function text = let more = cells_to cs function text in let one = mul-suc (cells_for (length text)) (length cs) in omega (arith, more, one)
+
 -- a line's pages have room
 line_within : (directory : Directory) (spare : ℕ) (p : Pending) (line : List ℕ) → cells_of_all (outcome directory spare p line).pages ≤ spare
 line_within directory spare p line = elim (at_line directory spare p line) [
-  | inl h ↦ (let r = h.room in let e = ap cells_of_all h.pages_are in omega (arith, r, e))
+  | inl h ↦ (let r = h.room in let e = ap cells_of_all h.pages_are ∙ cells_to h.target.capcodes h.target.function h.text in omega (arith, r, e))
   | inr h ↦ (let e = ap cells_of_all h.none in omega (arith, e))
 ]
 

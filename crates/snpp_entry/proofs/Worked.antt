@@ -6,7 +6,7 @@ use Rattle.std.specs.Cmp.Lexicographic.{slice_cmp, nat_list_cmp_total}
 use Rattle.std.specs.FinMap.{find, from_entries, get, get-from_entries}
 use Rattle.codeword.specs.declared.functions.Function.TheVariants.{Numeric, Tone1, Alpha}
 use Rattle.subscribers.specs.Parts.{Ids}
-use Rattle.subscribers.specs.declared.subscriber.Subscriber.{Subscriber}
+use Rattle.subscribers.specs.Parts.{Target}
 use Rattle.snpp_entry.specs.declared.answers.SnppAnswer.TheVariants.{Ok, Bye, Command, Twice, Missing, Pager, Text, Room, TooLong}
 use Rattle.subscribers.specs.Directory.{Directory}
 use Rattle.snpp_entry.specs.Replies.{snpp_replies, the_greeting, with_end}
@@ -14,14 +14,14 @@ use Rattle.snpp_entry.specs.Reports.{snpp_report_of}
 use Rattle.snpp_entry.specs.Session.{session, snpp_session_of}
 
 -- six subscribers
-abbrev subscribers : List (List ℕ × Subscriber)
+abbrev subscribers : List (List ℕ × Target)
 subscribers =
-    (codes "5551234", record { capcode = 8; function = Alpha })
-    ∷ (codes "5550002", record { capcode = 9; function = Numeric })
-    ∷ (codes "15", record { capcode = 15; function = Tone1 })
-    ∷ (codes "8", record { capcode = 8; function = Tone1 })
-    ∷ (codes "16", record { capcode = 16; function = Tone1 })
-    ∷ (codes "7", record { capcode = 15; function = Alpha })
+    (codes "5551234", record { function = Alpha; capcodes = 8 ∷ [] })
+    ∷ (codes "5550002", record { function = Numeric; capcodes = 9 ∷ [] })
+    ∷ (codes "15", record { function = Tone1; capcodes = 15 ∷ [] })
+    ∷ (codes "8", record { function = Tone1; capcodes = 8 ∷ [] })
+    ∷ (codes "16", record { function = Tone1; capcodes = 16 ∷ [] })
+    ∷ (codes "7", record { function = Alpha; capcodes = 15 ∷ [] })
     ∷ []
 
 -- their directory

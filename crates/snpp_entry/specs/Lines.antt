@@ -1,6 +1,6 @@
 -- Characters, the lines of a list of them, and the verb and the argument of a line.
 use Rattle.entry_line.specs.Chars.{lf, cr, space}
-use Rattle.std.specs.Prelude.{ℕ, ◌%◌, ◌==◌, List, [], ◌∷◌, ◌++◌, flat_map, if◌then◌else◌, ◌≢◌, All}
+use Rattle.std.specs.Prelude.{ℕ, ◌==◌, List, [], ◌∷◌, ◌++◌, flat_map, if◌then◌else◌, ◌≢◌, All}
 
 -- A list of characters, cut after each LF: the pieces that an LF ends, without it, and what follows the last LF.
 pub record Cut : Type 0 where

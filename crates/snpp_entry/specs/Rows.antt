@@ -1,11 +1,12 @@
 -- How a line is answered: docs/profile.md, "SNPP lines", by the first row that applies.
-use Rattle.std.specs.Prelude.{ℕ, ◌*◌, nat_lt, Bool, ◌||◌, List, [], ◌∷◌, map, length, codes, Option, Some, None, if◌then◌else◌}
+use Rattle.std.specs.Prelude.{ℕ, ◌*◌, nat_lt, Bool, ◌||◌, List, [], ◌∷◌, length, codes, Option, Some, None, if◌then◌else◌}
 use Rattle.std.specs.Str.{str_eq_ignore_ascii_case}
 use Rattle.codeword.specs.declared.functions.Function.{Function}
 use Rattle.codeword.specs.declared.functions.Function.TheVariants.{Numeric, Tone1, Tone2, Alpha}
 use Rattle.page_text.specs.Page.{Page}
 use Rattle.page_pool.specs.Cells.{cells_for}
-use Rattle.subscribers.specs.declared.subscriber.Subscriber.{Subscriber}
+use Rattle.page_pool.specs.Gains.{pages_to}
+use Rattle.subscribers.specs.Parts.{Target}
 use Rattle.subscribers.specs.Directory.{Directory}
 use Rattle.snpp_entry.specs.declared.answers.SnppAnswer.{SnppAnswer}
 use Rattle.snpp_entry.specs.declared.answers.SnppAnswer.TheVariants.{Ok, Bye, Command, Twice, Missing, Pager, Text, Room}
@@ -13,14 +14,6 @@ use Rattle.snpp_entry.specs.declared.verbs.Verb.{Verb}
 use Rattle.snpp_entry.specs.declared.verbs.Verb.TheVariants.{Page as PAGE, Mess as MESS, Rese as RESE, Send as SEND, Quit as QUIT, Other as OTHER}
 use Rattle.page_text.specs.FitTest.{fits}
 use Rattle.snpp_entry.specs.Lines.{verb, argument}
-
--- the capcodes of an id, in their order: one
-abbrev pub capcodes : Subscriber → List ℕ
-capcodes s = s.capcode ∷ []
-
--- the pages of an id: one with this text for each of its capcodes
-abbrev pub pages_to : Subscriber → List ℕ → List Page
-pages_to s text = map (λ c. record { capcode = c; function = s.function; text = text }) (capcodes s)
 
 -- the id and the text that are pending, or none
 pub record Pending : Type 0 where
@@ -56,9 +49,9 @@ verb_of v =
     else OTHER
 
 -- an id, where none is pending: it is unknown, or is pending from now on
-abbrev pub with_id : Pending → List ℕ → Option Subscriber → Outcome
+abbrev pub with_id : Pending → List ℕ → Option Target → Outcome
 with_id p id None = without_page Pager p
-with_id p id (Some s) = without_page Ok (record p { id = Some id })
+with_id p id (Some t) = without_page Ok (record p { id = Some id })
 
 -- an id: a second one, an unknown one, or one that is pending from now on
 abbrev pub page_row : Directory → Pending → List ℕ → Option (List ℕ) → Outcome
@@ -70,11 +63,12 @@ abbrev pub mess_row : Pending → List ℕ → Option (List ℕ) → Outcome
 mess_row p text (Some pending) = without_page Twice p
 mess_row p text None = without_page Ok (record p { text = Some text })
 
--- a page for this subscriber with this text: the text is wrong, there is no room, or the page is queued
-abbrev pub send_text : ℕ → Subscriber → List ℕ → Outcome
-send_text spare s text =
-    if fits s.function text then
-    (if nat_lt spare (cells_for (length text) * length (capcodes s)) then without_page Room nothing else record { answer = Ok; pending = nothing; pages = pages_to s text })
+-- a page of this text for each capcode of an id: the text is wrong, there is no room for all of them, or they are queued in their order
+abbrev pub send_text : ℕ → Target → List ℕ → Outcome
+send_text spare t text =
+    if fits t.function text then
+    (if nat_lt spare (cells_for (length text) * length t.capcodes) then without_page Room nothing
+    else record { answer = Ok; pending = nothing; pages = pages_to t.capcodes t.function text })
     else without_page Text nothing
 
 -- the text of the pages of an id with this function: the one that is pending, or else the empty one of a tone, or none
@@ -85,15 +79,15 @@ pending_text Tone2 None = Some []
 pending_text Numeric None = None
 pending_text Alpha None = None
 
--- a page for this subscriber: the text is missing, or there is one
-abbrev pub sent_for : ℕ → Pending → Subscriber → Option (List ℕ) → Outcome
-sent_for spare p s None = without_page Missing p
-sent_for spare p s (Some text) = send_text spare s text
+-- the pages of an id: the text is missing, or there is one
+abbrev pub sent_for : ℕ → Pending → Target → Option (List ℕ) → Outcome
+sent_for spare p t None = without_page Missing p
+sent_for spare p t (Some text) = send_text spare t text
 
--- the same, by the subscriber of the id
-abbrev pub send_to : ℕ → Pending → Option Subscriber → Outcome
+-- the same, by what the id stands for
+abbrev pub send_to : ℕ → Pending → Option Target → Outcome
 send_to spare p None = without_page Missing p
-send_to spare p (Some s) = sent_for spare p s (pending_text s.function p.text)
+send_to spare p (Some t) = sent_for spare p t (pending_text t.function p.text)
 
 -- a page: the id is missing, or there is one
 abbrev pub send_row : Directory → ℕ → Pending → Option (List ℕ) → Outcome

@@ -14,7 +14,7 @@ use arrayvec::ArrayVec;
 use codeword::Function;
 use page_pool::Pool;
 use page_text::fits;
-use subscribers::{Settings, Subscriber};
+use subscribers::{Settings, Target};
 
 /// The most characters of a line.
 pub(crate) const LONGEST_LINE: usize = 1100;
@@ -93,13 +93,14 @@ fn text_for(function: Function, text: &Option<ArrayVec<u8, LONGEST_LINE>>) -> Op
 }
 
 /// Queues the pages of an id with this text: the answer, and how many they are.
-fn send_text(subscriber: Subscriber, text: &[u8], pool: &mut Pool) -> (SnppAnswer, u32)
-    ensures { IsOutcomeDone (send_text pool.old.spare subscriber text.now) result.0 result.1 nothing pool.old pool.new }
+fn send_text(target: &Target<'_>, text: &[u8], pool: &mut Pool) -> (SnppAnswer, u32)
+    ensures done { IsOutcomeDone (send_text pool.old.spare target.now text.now) result.0 result.1 nothing pool.old pool.new }
+    ensures few { result.1 ≤ 16 }
 {
-    match fits(subscriber.function, text) {
+    match fits(target.function(), text) {
         Err(_) => (SnppAnswer::Text, 0),
-        Ok(()) => match pool.put(subscriber.capcode, subscriber.function, text) {
-            Ok(()) => (SnppAnswer::Ok, 1),
+        Ok(()) => match pool.put_all(target.capcodes(), target.function(), text) {
+            Ok(()) => (SnppAnswer::Ok, target.count() as u32),
             Err(_) => (SnppAnswer::Room, 0),
         },
     }
@@ -107,16 +108,17 @@ fn send_text(subscriber: Subscriber, text: &[u8], pool: &mut Pool) -> (SnppAnswe
 
 /// Answers SEND: the answer, and how many pages were queued.
 fn send(pending: &mut Held, settings: &Settings, pool: &mut Pool) -> (SnppAnswer, u32)
-    ensures { IsOutcomeDone (send_row (directory_of settings.now) pool.old.spare (pending_of pending.old) (pending_of pending.old).id) result.0 result.1 (pending_of pending.new) pool.old pool.new }
+    ensures done { IsOutcomeDone (send_row (directory_of settings.now) pool.old.spare (pending_of pending.old) (pending_of pending.old).id) result.0 result.1 (pending_of pending.new) pool.old pool.new }
+    ensures few { result.1 ≤ 16 }
 {
     match &pending.id {
         None => (SnppAnswer::Missing, 0),
         Some(id) => match settings.find(id.as_slice()) {
             None => (SnppAnswer::Missing, 0),
-            Some(subscriber) => match text_for(subscriber.function, &pending.text) {
+            Some(target) => match text_for(target.function(), &pending.text) {
                 None => (SnppAnswer::Missing, 0),
                 Some(text) => {
-                    let sent = send_text(subscriber, text, pool);
+                    let sent = send_text(&target, text, pool);
                     *pending = Held::nothing();
                     sent
                 }
@@ -132,7 +134,8 @@ fn answer(
     settings: &Settings,
     pool: &mut Pool,
 ) -> (SnppAnswer, u32)
-    ensures { IsOutcomeDone (outcome (directory_of settings.now) pool.old.spare (pending_of pending.old) line.now) result.0 result.1 (pending_of pending.new) pool.old pool.new }
+    ensures done { IsOutcomeDone (outcome (directory_of settings.now) pool.old.spare (pending_of pending.old) line.now) result.0 result.1 (pending_of pending.new) pool.old pool.new }
+    ensures few { result.1 ≤ 16 }
 {
     if line.len() > LONGEST_LINE {
         return (SnppAnswer::Command, 0);
@@ -177,7 +180,7 @@ pub(crate) fn answer_piece(
 ) -> (SnppAnswer, u32)
     ensures done { (piece : List ℕ) → AreKept piece kept.now count
         → IsOutcomeDone (outcome (directory_of settings.now) pool.old.spare (pending_of pending.old) (without_cr piece)) result.0 result.1 (pending_of pending.new) pool.old pool.new }
-    ensures few { result.1 ≤ 1 }
+    ensures few { result.1 ≤ 16 }
 {
     if count as usize > LONGEST_LINE + 1 {
         return (SnppAnswer::Command, 0);

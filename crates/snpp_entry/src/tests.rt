@@ -3,6 +3,7 @@
 ghost use Rattle.std.specs.Prelude.{◌≤◌};
 
 use crate::*;
+use codeword::Capcode;
 use page_pool::Pool;
 use std::alloc::{AllocError, Global};
 use std::test::Fail;
@@ -164,6 +165,83 @@ fn a_line_of_more_than_1100_characters_is_no_command(rt: HostRuntime) -> Result<
             longer.as_slice(),
             b"250 OK\r\n500 command\r\n503 incomplete\r\n".as_slice()
         );
+    }
+    Ok(())
+}
+
+/// A subscriber, and a group of three capcodes.
+const BRIGADE: &[u8] = b"version = 2
+cells = 64
+subscriber = [{id = \"8\", capcode = 8, class = \"tone1\"}]
+group = [{id = \"900\", capcodes = [8, 15, 2000], class = \"alpha\"}]
+";
+
+/// A page to the group.
+const TO_THE_BRIGADE: &[u8] = b"PAGE 900\nMESS A\nSEND\n";
+
+/// What a row shows, how many cells there are, what is said to a page to the group, and the capcodes of its pages.
+type GroupRow = (&'static str, u32, &'static [u8], &'static [u32]);
+
+const GROUP_ROWS: [GroupRow; 4] = [
+    (
+        "room for more",
+        64,
+        b"250 OK\r\n250 OK\r\n250 OK\r\n",
+        &[8, 15, 2000],
+    ),
+    (
+        "room for all three",
+        3,
+        b"250 OK\r\n250 OK\r\n250 OK\r\n",
+        &[8, 15, 2000],
+    ),
+    (
+        "room for two, so for none",
+        2,
+        b"250 OK\r\n250 OK\r\n554 room\r\n",
+        &[],
+    ),
+    (
+        "room for one, so for none",
+        1,
+        b"250 OK\r\n250 OK\r\n554 room\r\n",
+        &[],
+    ),
+];
+
+/// Takes the first page of the capcode's frame out, and answers whether it is one to this capcode.
+fn takes_page_to(pool: &mut Pool, capcode: u32) -> bool {
+    let Some(wanted) = Capcode::of(capcode) else {
+        return false;
+    };
+    let Some(ticket) = pool.first(wanted.frame()) else {
+        return false;
+    };
+    if !pool.live(ticket) {
+        return false;
+    }
+    let found = pool.capcode(ticket);
+    pool.take(ticket);
+    found == wanted
+}
+
+#[test]
+fn a_page_to_a_group_is_one_page_for_each_capcode(rt: HostRuntime) -> Result<(), Fail> {
+    let alloc = rt.alloc();
+    let settings = settings(alloc, BRIGADE)?;
+    let mut session = Snpp::new();
+    for (name, cells, replies, capcodes) in GROUP_ROWS {
+        let mut pool = pool(alloc, cells)?;
+        session.begin();
+        let said = said(alloc, &mut session, &settings, &mut pool, TO_THE_BRIGADE)?;
+        assert_eq!(rt; said.as_slice(), replies, "{name}");
+        let pages = capcodes.len() as u32;
+        assert_eq!(rt; session.report().pages, pages, "{name}");
+        assert_eq!(rt; pool.count(), pages, "{name}");
+        assert_eq!(rt; pool.spare(), cells - pages, "{name}");
+        for capcode in capcodes {
+            assert!(rt; takes_page_to(&mut pool, *capcode), "{name}: {capcode}");
+        }
     }
     Ok(())
 }

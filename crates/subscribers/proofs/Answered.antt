@@ -1,16 +1,17 @@
 -- The answer of `read`, by what each of its steps answers.
-use Rattle.std.proofs.Common.{◌≡◌, ℕ, ◌<◌, ◌≤◌, Bool, true, false, cond, nat_lt, List, length, Option, Some, None, Result, Ok, Err, inl, inr, ⊎_elim, arith, refl, sym, ap}
+use Rattle.std.proofs.Common.{◌≡◌, ℕ, ◌<◌, ◌≤◌, Bool, true, false, cond, nat_lt, List, length, Option, Some, None, Result, Ok, Err, ◌||◌, ◌⊎◌, inl, inr, ⊎_elim, arith, refl, sym, ap}
 use Rattle.std.proofs.lemmas.Bool.Decides.{nat_tests}
 use Rattle.toml.specs.Data.{Members}
 use Rattle.toml.specs.Parse.{parse_document}
 use Rattle.std.proofs.lemmas.Str.{IsUtf8-from_is_utf8, is_utf8-from_IsUtf8}
 use Rattle.std.specs.Str.{IsUtf8, is_utf8}
 use Rattle.subscribers.specs.declared.faults.SettingsFault.{SettingsFault}
-use Rattle.subscribers.specs.declared.faults.SettingsFault.TheVariants.{Long, NotToml, Password, Cells, TooMany}
-use Rattle.subscribers.specs.Entries.{ids_of}
-use Rattle.subscribers.specs.Form.{Form}
+use Rattle.subscribers.specs.declared.faults.SettingsFault.TheVariants.{Long, NotToml, Form as FormFault, Password, Cells, TooMany}
+use Rattle.subscribers.specs.declared.document.Version.{Version}
+use Rattle.subscribers.specs.Entries.{id_entries, ids_of}
+use Rattle.subscribers.specs.Form.{Form, form_of, version_of}
 use Rattle.subscribers.specs.Parts.{Ids, Parts}
-use Rattle.subscribers.specs.Settings.{most_settings_bytes, most_entries, is_password_or_none, cells_in_range, parts_of, with_cells, settings_of_form, settings_of_tree, of_tree, tree_of, settings_of, IsOrMemory}
+use Rattle.subscribers.specs.Settings.{most_settings_bytes, most_entries, most_groups, is_password_or_none, cells_in_range, parts_of, with_cells, settings_of_form, settings_of_tree, of_tree, tree_of, settings_of, IsOrMemory}
 
 -- A test that is decided.
 above : (a b : ℕ) → a < b → nat_lt a b ≡ true
@@ -18,6 +19,14 @@ above a b h = grind (arith, nat_tests)
 
 not_above : (a b : ℕ) → b ≤ a → nat_lt a b ≡ false
 not_above a b h = grind (arith, nat_tests)
+
+too_many : (n m : ℕ) → (most_entries < n) ⊎ (most_groups < m) → (nat_lt most_entries n || nat_lt most_groups m) ≡ true
+too_many n m (inl h) = rw (above most_entries n h)
+too_many n m (inr h) = rw (above most_groups m h) (or_true (nat_lt most_entries n))
+  where
+    or_true : (b : Bool) → (b || true) ≡ true
+    or_true true = refl
+    or_true false = refl
 
 -- What the password's step answered, as a test.
 no_password : {A B : Type 0} (b : Bool) (x : A) (r : Result B SettingsFault) (fault : SettingsFault) → Err fault ≡ cond b (Ok x) (Err Password) → Err fault ≡ cond b r (Err Password)
@@ -37,13 +46,27 @@ module _ (form : Form) where
   unfolding settings_of_form
   refused_cells p c = rw (p, ← c)
 
-  pub refused_many : (n : ℕ) → is_password_or_none form.password ≡ true → Some n ≡ cells_in_range form.cells → most_entries < length form.entries → Err TooMany ≡ settings_of_form form
+  pub refused_many : (n : ℕ) → is_password_or_none form.password ≡ true → Some n ≡ cells_in_range form.cells → (most_entries < length form.entries) ⊎ (most_groups < length form.groups) → Err TooMany ≡ settings_of_form form
   unfolding settings_of_form
-  refused_many n p c many = rw (p, ← c, above most_entries (length form.entries) many)
+  refused_many n p c many = rw (p, ← c, too_many (length form.entries) (length form.groups) many)
 
-  pub from_ids : (n : ℕ) → is_password_or_none form.password ≡ true → Some n ≡ cells_in_range form.cells → length form.entries ≤ most_entries → parts_of n form.password (ids_of form.entries) ≡ settings_of_form form
+  pub from_ids : (n : ℕ) → is_password_or_none form.password ≡ true → Some n ≡ cells_in_range form.cells → length form.entries ≤ most_entries → length form.groups ≤ most_groups → parts_of n form.password (ids_of (id_entries form.entries form.groups)) ≡ settings_of_form form
   unfolding settings_of_form
-  from_ids n p c few = rw (p, ← c, not_above most_entries (length form.entries) few)
+  from_ids n p c few few_groups = rw (p, ← c, not_above most_entries (length form.entries) few, not_above most_groups (length form.groups) few_groups)
+
+-- The answer by the version, and then by the form.
+module _ (tree : Members) where
+  pub settings_of_tree-no_version : (fault : SettingsFault) → Err fault ≡ version_of tree → Err fault ≡ settings_of_tree tree
+  unfolding settings_of_tree
+  settings_of_tree-no_version fault h = rw (← h)
+
+  pub settings_of_tree-no_form : (version : Version) → Ok version ≡ version_of tree → form_of version tree ≡ None → Err FormFault ≡ settings_of_tree tree
+  unfolding settings_of_tree
+  settings_of_tree-no_form version h f = rw (← h, f)
+
+  pub settings_of_tree-form : (version : Version) (form : Form) → Ok version ≡ version_of tree → form_of version tree ≡ Some form → settings_of_form form ≡ settings_of_tree tree
+  unfolding settings_of_tree
+  settings_of_tree-form version form h f = rw (← h, f)
 
 -- The map that was made, and the fault in its place.
 pub made_ids : (ids : Ids) (r : Result Ids SettingsFault) → IsOrMemory (Ok ids) r → Ok ids ≡ r

@@ -2,9 +2,11 @@ pub mod Answered
 pub mod Digits
 pub mod Directories
 pub mod Forms
+pub mod Grouped
 pub mod Ids
 pub mod Keys
 pub mod Places
-pub mod Subscribers
+pub mod Targets
 pub mod Turns
 pub mod Usable
+pub mod Versions

@@ -1,8 +1,7 @@
 -- What the entries add to the map of ids: the earlier ones, and the later ones behind them.
 use Rattle.std.proofs.Common.{◌≡◌, List, [], ◌∷◌, ◌++◌, map, Result, Ok, Err, refl, ap, ◌∙◌}
 use Rattle.std.proofs.lemmas.List.{map-append}
-use Rattle.subscribers.specs.Entries.{with_earlier, listed, joined_results, all_or_first_fault, listed_all}
-use Rattle.subscribers.specs.Form.{SubscriberEntry}
+use Rattle.subscribers.specs.Entries.{IdEntry, with_earlier, listed, joined_results, all_or_first_fault, listed_all}
 use Rattle.subscribers.specs.declared.faults.SettingsFault.{SettingsFault}
 
 -- Mapping one after another.
@@ -15,13 +14,13 @@ map_twice f g [] = refl
 map_twice f g (x ∷ xs) = ap (λ l. g (f x) ∷ l) (map_twice f g xs)
 
 -- A place behind some entries.
-abbrev pub behind : List SubscriberEntry → List SubscriberEntry × SubscriberEntry → List SubscriberEntry × SubscriberEntry
+abbrev pub behind : List IdEntry → List IdEntry × IdEntry → List IdEntry × IdEntry
 behind es p = (es ++ p.0, p.1)
 
-abbrev pub later : SubscriberEntry → List SubscriberEntry × SubscriberEntry → List SubscriberEntry × SubscriberEntry
+abbrev pub later : IdEntry → List IdEntry × IdEntry → List IdEntry × IdEntry
 later e p = (e ∷ p.0, p.1)
 
-pub places-append : (a b : List SubscriberEntry) → with_earlier (a ++ b) ≡ with_earlier a ++ map (behind a) (with_earlier b)
+pub places-append : (a b : List IdEntry) → with_earlier (a ++ b) ≡ with_earlier a ++ map (behind a) (with_earlier b)
 places-append [] b = same_map_of (with_earlier b)
 places-append (e ∷ a) b =
     ap (λ l. ([], e) ∷ l) (ap (map (later e)) (places-append a b)
@@ -52,7 +51,7 @@ all-append [] ss = after_none (all_or_first_fault ss)
 all-append (r ∷ rs) ss = ap (joined_results r) (all-append rs ss) ∙ joined-both r (all_or_first_fault rs) (all_or_first_fault ss)
 
 -- What the later entries add, behind the earlier ones.
-pub listed_all-append : (a b : List SubscriberEntry) → listed_all (a ++ b) ≡ both (listed_all a) (all_or_first_fault (map (λ p. listed (behind a p)) (with_earlier b)))
+pub listed_all-append : (a b : List IdEntry) → listed_all (a ++ b) ≡ both (listed_all a) (all_or_first_fault (map (λ p. listed (behind a p)) (with_earlier b)))
 unfolding listed_all
 listed_all-append a b =
     ap (λ l. all_or_first_fault (map listed l)) (places-append a b)

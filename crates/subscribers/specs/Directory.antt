@@ -1,12 +1,11 @@
 -- What ids stand for.
 use Rattle.std.specs.Prelude.{ℕ, List, Option}
 use Rattle.std.specs.FinMap.{get}
-use Rattle.subscribers.specs.declared.subscriber.Subscriber.{Subscriber}
-use Rattle.subscribers.specs.Parts.{Parts}
+use Rattle.subscribers.specs.Parts.{Parts, Target}
 
--- the subscriber of an id, or none
+-- what an id stands for, or none
 abbrev pub Directory : Type 0
-Directory = List ℕ → Option Subscriber
+Directory = List ℕ → Option Target
 
 -- the directory of settings
 abbrev pub directory_of : Parts → Directory

@@ -1,16 +1,17 @@
 -- The settings that a file gives, or why it is refused.
-use Rattle.std.specs.Prelude.{ℕ, ℤ, pos, negsuc, Bool, true, ◌&&◌, ◌==◌, nat_lt, ◌≡◌, ◌⊎◌, List, length, Option, Some, None, Result, Ok, Err, if◌then◌else◌}
+use Rattle.std.specs.Prelude.{ℕ, ℤ, pos, negsuc, Bool, true, ◌&&◌, ◌||◌, ◌==◌, nat_lt, ◌≡◌, ◌⊎◌, List, length, Option, Some, None, Result, Ok, Err, if◌then◌else◌}
 use Rattle.std.specs.List.{list_all}
 use Rattle.std.specs.Str.{is_utf8}
 use Rattle.toml.specs.Data.{Members}
 use Rattle.toml.specs.Parse.{parse_document}
 use Rattle.subscribers.specs.declared.faults.SettingsFault.{SettingsFault}
 use Rattle.subscribers.specs.declared.faults.SettingsFault.TheVariants.{Long, NotToml, Form as FormFault, Password, Cells, TooMany, Memory}
-use Rattle.subscribers.specs.Form.{Form, form_of}
-use Rattle.subscribers.specs.Entries.{is_between, ids_of}
+use Rattle.subscribers.specs.declared.document.Version.{Version}
+use Rattle.subscribers.specs.Form.{Form, form_of, version_of}
+use Rattle.subscribers.specs.Entries.{is_between, id_entries, ids_of}
 use Rattle.subscribers.specs.Parts.{Ids, Parts}
 
--- The limits: bytes of a file, cells, entries.
+-- The limits: bytes of a file, cells, subscribers, groups.
 abbrev pub most_settings_bytes : ℕ
 most_settings_bytes = 1048576
 
@@ -19,6 +20,9 @@ most_cells = 65536
 
 abbrev pub most_entries : ℕ
 most_entries = 10000
+
+abbrev pub most_groups : ℕ
+most_groups = 1000
 
 -- A password is six characters from `!` to `~`.
 abbrev pub is_password : List ℕ → Bool
@@ -42,7 +46,8 @@ parts_of cells password (Err fault) = Err fault
 abbrev pub with_cells : Form → Option ℕ → Result Parts SettingsFault
 with_cells form None = Err Cells
 with_cells form (Some cells) =
-    if nat_lt most_entries (length form.entries) then Err TooMany else parts_of cells form.password (ids_of form.entries)
+    if nat_lt most_entries (length form.entries) || nat_lt most_groups (length form.groups) then Err TooMany
+    else parts_of cells form.password (ids_of (id_entries form.entries form.groups))
 
 unfoldable pub settings_of_form : Form → Result Parts SettingsFault
 settings_of_form form = if is_password_or_none form.password then with_cells form (cells_in_range form.cells) else Err Password
@@ -52,8 +57,13 @@ abbrev pub of_form : Option Form → Result Parts SettingsFault
 of_form None = Err FormFault
 of_form (Some form) = settings_of_form form
 
-abbrev pub settings_of_tree : Members → Result Parts SettingsFault
-settings_of_tree tree = of_form (form_of tree)
+-- What a document gives by its version. Version comes before Form.
+abbrev pub of_version : Members → Result Version SettingsFault → Result Parts SettingsFault
+of_version tree (Ok version) = of_form (form_of version tree)
+of_version tree (Err fault) = Err fault
+
+unfoldable pub settings_of_tree : Members → Result Parts SettingsFault
+settings_of_tree tree = of_version tree (version_of tree)
 
 -- The document that the bytes are: UTF-8 that `toml` reads.
 abbrev pub tree_of : List ℕ → Option Members

@@ -1,33 +1,55 @@
 //! The ordered map of ids.
 
-ghost use Rattle.std.specs.Prelude.{◌≡◌, OnOk, OnErr};
+ghost use Rattle.std.specs.Prelude.{◌≡◌, ◌≤◌, length, OnOk, OnErr, Option, option_map};
 ghost use Rattle.std.specs.FinMap as map;
+ghost use Rattle.subscribers.specs.Entries.{most_members};
+ghost use Rattle.subscribers.specs.Placed.{IsPlaceIn, target_at};
 
-use crate::subscriber::Subscriber;
+use crate::target::Target;
+use codeword::{Capcode, Function};
 use std::alloc::{AllocError, Global};
 use std::collections::BTreeMap;
 use std::marker::Model;
 
-/// A map from ids to subscribers, in the order of the ids' bytes.
+/// Where the capcodes of an id stand, and the function of its pages.
+#[derive(Clone, Copy, Debug, PartialEq, Eq)]
+pub(crate) struct Place {
+    function: Function,
+    start: usize,
+    count: usize,
+}
+
+/// What stands at a place.
+fn target_in(capcodes: &[Capcode], place: Place) -> Target<'_>
+    requires { IsPlaceIn capcodes.now place }
+    ensures { result ≡ target_at capcodes.now place }
+{
+    let end = place.start + place.count;
+    Target::new(place.function, &capcodes[place.start..end])
+}
+
+/// A map from ids to what they stand for, in the order of the ids' bytes. The capcodes of all ids stand in one list.
 #[derive(Drop)]
 pub struct Directory {
-    ids: BTreeMap<Vec<u8>, Subscriber>,
+    ids: BTreeMap<Vec<u8>, Place>,
+    capcodes: Vec<Capcode>,
 }
 
 impl Model for Directory {
-    ghost use Rattle.std.specs.Prelude.{map as map_list};
     ghost use Rattle.std.specs.FinMap as map;
     ghost use Rattle.std.specs.Ordering.{nat_cmp};
     ghost use Rattle.std.specs.Cmp.Lexicographic.{slice_cmp};
-    ghost use Rattle.subscribers.specs.declared.subscriber.Subscriber.{Subscriber};
-    ghost use Rattle.subscribers.specs.contracts.subscriber.Subscriber as subscriber;
     ghost use Rattle.std.specs.Coded.{coded_ℕ, coded_list};
+    ghost use Rattle.subscribers.specs.Parts.{Target as IdTarget, target_code};
+    ghost use Rattle.subscribers.specs.Placed.{seen_ids, ArePlacesIn};
 
-    ghost Value = { map.FinMap (slice_cmp nat_cmp) Subscriber };
+    ghost Value = { map.FinMap (slice_cmp nat_cmp) IdTarget };
 
-    ghost coded = { map.code (coded_list coded_ℕ) subscriber.the_row.coded };
+    ghost coded = { map.code (coded_list coded_ℕ) target_code };
 
-    ghost view = { λ a. map.from_entries (map_list (λ e. (e.0.items, e.1)) a.ids.entries) };
+    ghost view = { λ a. map.from_entries (seen_ids a.capcodes.items a.ids.entries) };
+
+    ghost invariant = { λ a. ArePlacesIn a.capcodes.items a.ids.entries };
 }
 
 impl Directory {
@@ -37,28 +59,42 @@ impl Directory {
     {
         Directory {
             ids: BTreeMap::new(alloc),
+            capcodes: Vec::new(alloc),
         }
     }
 
-    /// The subscriber of an id. None where the map hasn't this id. The time grows with the logarithm of the number of ids.
-    pub fn find(&self, id: &[u8]) -> Option<Subscriber>
+    /// What an id stands for. None where the map hasn't this id. The time grows with the logarithm of the number of ids.
+    pub fn find(&self, id: &[u8]) -> Option<Target<'_>>
         ensures { result ≡ map.get self.now id.now }
     {
-        self.ids.get(id).copied()
+        match self.ids.get(id) {
+            Some(place) => Some(target_in(&self.capcodes, *place)),
+            None => None,
+        }
     }
 
-    /// Adds an id with its subscriber. Where there is no memory, the map stays as it was.
+    /// Adds an id with what it stands for. Where there is no memory, the map stays as it was.
     pub fn insert(
         &mut self,
         alloc: Global,
         id: &[u8],
-        subscriber: Subscriber,
+        function: Function,
+        capcodes: &[Capcode],
     ) -> Result<(), AllocError>
-        ensures ok { OnOk result (self.new ≡ map.insert self.old id.now subscriber) }
+        requires some { 1 ≤ length capcodes.now }
+        requires most { length capcodes.now ≤ most_members }
+        ensures ok { OnOk result (self.new ≡ map.insert self.old id.now (record { function = function; capcodes = capcodes.now })) }
         ensures err { OnErr result (self.new ≡ self.old) }
     {
         let key = Vec::from_slice(alloc, id)?;
-        self.ids.insert(key, subscriber)?;
+        let start = self.capcodes.len();
+        self.capcodes.extend_from_slice(capcodes)?;
+        let place = Place {
+            function,
+            start,
+            count: capcodes.len(),
+        };
+        self.ids.insert(key, place)?;
         Ok(())
     }
 }

@@ -1,15 +1,16 @@
-//! The checks of each entry, and the map that the entries make.
+//! The checks of each subscriber and each group, and the map that they make.
 
-ghost use Rattle.std.specs.Prelude.{◌≡◌, ◌≤◌, length};
+ghost use Rattle.std.specs.Prelude.{◌≡◌, ◌⊎◌, ◌≤◌, List, map, Ok, Err, IfOk, IfErr, length};
 ghost use Rattle.std.specs.List.{list_all};
-ghost use Rattle.subscribers.specs.Entries.{is_between, is_id, capcode_of, function_of_class, subscriber_of, ids_of};
-ghost use Rattle.subscribers.specs.Seen.{seen_entry, seen_entries};
-ghost use Rattle.subscribers.specs.Settings.{most_entries, IsOrMemory};
+ghost use Rattle.subscribers.specs.Entries.{is_between, is_id, function_of_class, subscriber_of, group_of, most_members, a_subscriber, id_entries, ids_of};
+ghost use Rattle.subscribers.specs.Form.{SubscriberEntry};
+ghost use Rattle.subscribers.specs.Seen.{seen_entry, seen_entries, seen_group, seen_groups, target_to, target_of_group};
+ghost use Rattle.subscribers.specs.Settings.{most_entries, most_groups, IsOrMemory};
 
 use crate::directory::Directory;
-use crate::document::Entry;
 use crate::faults::SettingsFault;
-use crate::subscriber::Subscriber;
+use crate::members::{capcode_from, members_from};
+use crate::tables::{Entry, GroupTable};
 use codeword::{Capcode, Function};
 use entry_line::characters::MOST_DIGITS;
 use std::alloc::Global;
@@ -28,16 +29,6 @@ fn is_id(text: &str) -> bool
     !text.is_empty() && text.len() <= MOST_DIGITS && are_digits(text.as_bytes())
 }
 
-/// The usable capcode of this number. None where it isn't one.
-fn capcode_from(n: i64) -> Option<Capcode>
-    ensures { result ≡ capcode_of n }
-{
-    match u32::try_from(n) {
-        Ok(n) => Capcode::of(n),
-        Err(_) => None,
-    }
-}
-
 /// The function that a class names. None where it names none.
 fn function_from(class: &str) -> Option<Function>
     ensures { result ≡ function_of_class class.now }
@@ -51,9 +42,17 @@ fn function_from(class: &str) -> Option<Function>
     }
 }
 
+/// A subscriber whose entry has no fault.
+#[derive(Clone, Copy, Debug, PartialEq, Eq)]
+pub struct Subscriber {
+    function: Function,
+    capcode: Capcode,
+}
+
 /// The subscriber of the entry of this number, whose id an earlier entry has or hasn't, or the first of its faults.
 fn subscriber_from(number: u32, twice: bool, entry: &Entry<'_>) -> Result<Subscriber, SettingsFault>
-    ensures { result ≡ subscriber_of number twice (seen_entry entry.now) }
+    ensures subscriber { IfOk result (λ s. subscriber_of number twice (seen_entry entry.now) ≡ Ok (target_to s)) }
+    ensures fault { IfErr result (λ f. subscriber_of number twice (seen_entry entry.now) ≡ Err f) }
 {
     if !is_id(entry.id) {
         return Err(SettingsFault::Id(number));
@@ -67,13 +66,50 @@ fn subscriber_from(number: u32, twice: bool, entry: &Entry<'_>) -> Result<Subscr
     let Some(function) = function_from(entry.class) else {
         return Err(SettingsFault::Class(number));
     };
-    Ok(Subscriber { capcode, function })
+    Ok(Subscriber { function, capcode })
 }
 
-/// The map of the entries' ids, or the fault of the first faulty entry.
-pub fn directory_from(alloc: Global, entries: &[Entry<'_>]) -> Result<Directory, SettingsFault>
+/// A group without a fault.
+#[derive(Drop)]
+pub struct CheckedGroup {
+    function: Function,
+    capcodes: Vec<Capcode>,
+}
+
+/// The group of this number, whose id an earlier entry has or hasn't, or the first of its faults.
+fn checked_group_from(
+    alloc: Global,
+    number: u32,
+    twice: bool,
+    group: &GroupTable<'_>,
+) -> Result<CheckedGroup, SettingsFault>
+    ensures group { IfOk result (λ g. group_of number twice (seen_group group.now) ≡ Ok (target_of_group g)) }
+    ensures some { IfOk result (λ g. 1 ≤ length g.capcodes.items) }
+    ensures most { IfOk result (λ g. length g.capcodes.items ≤ most_members) }
+    ensures fault { IfErr result (λ f. (f ≡ SettingsFault.Memory) ⊎ (group_of number twice (seen_group group.now) ≡ Err f)) }
+{
+    if !is_id(group.id) {
+        return Err(SettingsFault::GroupId(number));
+    }
+    if twice {
+        return Err(SettingsFault::GroupIdTwice(number));
+    }
+    let Ok(members) = members_from(alloc, &group.capcodes) else {
+        return Err(SettingsFault::Memory);
+    };
+    let Some(capcodes) = members else {
+        return Err(SettingsFault::GroupMembers(number));
+    };
+    let Some(function) = function_from(group.class) else {
+        return Err(SettingsFault::GroupClass(number));
+    };
+    Ok(CheckedGroup { function, capcodes })
+}
+
+/// The map of the subscribers' ids, or the fault of the first faulty entry.
+fn subscribers_from(alloc: Global, entries: &[Entry<'_>]) -> Result<Directory, SettingsFault>
     requires { length entries.now ≤ most_entries }
-    ensures { IsOrMemory result (ids_of (seen_entries entries.now)) }
+    ensures { IsOrMemory result (ids_of (map a_subscriber (seen_entries entries.now))) }
 {
     let mut directory = Directory::new(alloc);
     for (k, entry) in entries.iter().enumerate() {
@@ -83,9 +119,57 @@ pub fn directory_from(alloc: Global, entries: &[Entry<'_>]) -> Result<Directory,
             Ok(subscriber) => subscriber,
             Err(fault) => return Err(fault),
         };
-        if directory.insert(alloc, id, subscriber).is_err() {
+        let capcodes = [subscriber.capcode];
+        if directory
+            .insert(alloc, id, subscriber.function, &capcodes)
+            .is_err()
+        {
             return Err(SettingsFault::Memory);
         }
     }
     Ok(directory)
+}
+
+/// The map of the subscribers' ids with those of the groups, or the fault of the first faulty group.
+fn with_groups(
+    alloc: Global,
+    subscribers: Directory,
+    groups: &[GroupTable<'_>],
+) -> Result<Directory, SettingsFault>
+    requires { length groups.now ≤ most_groups }
+    ensures { (es : List SubscriberEntry) → ids_of (map a_subscriber es) ≡ Ok subscribers
+        → IsOrMemory result (ids_of (id_entries es (seen_groups groups.now))) }
+{
+    let mut directory = subscribers;
+    for (k, group) in groups.iter().enumerate() {
+        let id = group.id.as_bytes();
+        let twice = directory.find(id).is_some();
+        let checked = match checked_group_from(alloc, k as u32 + 1, twice, group) {
+            Ok(checked) => checked,
+            Err(fault) => return Err(fault),
+        };
+        if directory
+            .insert(alloc, id, checked.function, &checked.capcodes)
+            .is_err()
+        {
+            return Err(SettingsFault::Memory);
+        }
+    }
+    Ok(directory)
+}
+
+/// The map of all ids, or the fault of the first faulty subscriber, or else of the first faulty group.
+pub fn directory_from(
+    alloc: Global,
+    entries: &[Entry<'_>],
+    groups: &[GroupTable<'_>],
+) -> Result<Directory, SettingsFault>
+    requires few { length entries.now ≤ most_entries }
+    requires few_groups { length groups.now ≤ most_groups }
+    ensures { IsOrMemory result (ids_of (id_entries (seen_entries entries.now) (seen_groups groups.now))) }
+{
+    match subscribers_from(alloc, entries) {
+        Ok(subscribers) => with_groups(alloc, subscribers, groups),
+        Err(fault) => Err(fault),
+    }
 }

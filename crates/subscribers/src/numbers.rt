@@ -6,7 +6,6 @@ ghost use Rattle.std.specs.FinMap.{from_entries};
 ghost use Rattle.subscribers.specs.Made.{numbered, numbers_of};
 
 use crate::directory::Directory;
-use crate::subscriber::Subscriber;
 use codeword::{Capcode, Function};
 use itoa::Buffer;
 use std::alloc::{AllocError, Global};
@@ -22,11 +21,12 @@ pub fn directory_of_numbers(
     let mut directory = Directory::new(alloc);
     let mut digits = Buffer::new();
     for (number, capcode, function) in numbers {
-        let subscriber = Subscriber {
-            capcode: *capcode,
-            function: *function,
-        };
-        directory.insert(alloc, digits.format(*number).as_bytes(), subscriber)?;
+        directory.insert(
+            alloc,
+            digits.format(*number).as_bytes(),
+            *function,
+            &[*capcode],
+        )?;
     }
     Ok(directory)
 }

@@ -9,11 +9,11 @@ ghost use Rattle.subscribers.specs.Made.{made_parts, numbers_of};
 ghost use Rattle.subscribers.specs.Entries.{is_between};
 
 use crate::directory::Directory;
-use crate::document::{Document, document_from};
+use crate::document::{Document, document_from, version_of};
 use crate::entries::directory_from;
 use crate::faults::SettingsFault;
 use crate::numbers::directory_of_numbers;
-use crate::subscriber::Subscriber;
+use crate::target::Target;
 use codeword::{Capcode, Function};
 use entry_line::characters::PASSWORD_SIZE;
 use std::alloc::Global;
@@ -29,6 +29,9 @@ pub const MOST_CELLS: u32 = 65_536;
 
 /// There are at most this many subscribers.
 pub const MOST_SUBSCRIBERS: usize = 10_000;
+
+/// There are at most this many groups.
+pub const MOST_GROUPS: usize = 1_000;
 
 /// The settings that a file gives.
 #[derive(Drop)]
@@ -107,8 +110,9 @@ impl Settings {
         self.password
     }
 
-    /// The subscriber of an id. None exactly where no entry has this id. The time grows with the logarithm of the number of ids.
-    pub fn find(&self, id: &[u8]) -> Option<Subscriber>
+    /// What an id stands for. None exactly where no subscriber and no group has this id. The time grows with the logarithm of the number
+    /// of ids.
+    pub fn find(&self, id: &[u8]) -> Option<Target<'_>>
         ensures { result ≡ map.get self.now.ids id.now }
     {
         self.ids.find(id)
@@ -136,7 +140,11 @@ fn tree_from(alloc: Global, bytes: &[u8]) -> Result<Table, SettingsFault>
 fn settings_from_tree(alloc: Global, tree: &Table) -> Result<Settings, SettingsFault>
     ensures { IsOrMemory result (settings_of_tree (table_view tree.now)) }
 {
-    match document_from(alloc, tree) {
+    let version = match version_of(tree) {
+        Ok(version) => version,
+        Err(fault) => return Err(fault),
+    };
+    match document_from(alloc, version, tree) {
         Ok(document) => settings_from(alloc, &document),
         Err(fault) => Err(fault),
     }
@@ -156,7 +164,10 @@ fn settings_from(alloc: Global, document: &Document<'_>) -> Result<Settings, Set
     if document.entries.len() > MOST_SUBSCRIBERS {
         return Err(SettingsFault::TooMany);
     }
-    match directory_from(alloc, &document.entries) {
+    if document.groups.len() > MOST_GROUPS {
+        return Err(SettingsFault::TooMany);
+    }
+    match directory_from(alloc, &document.entries, &document.groups) {
         Ok(ids) => Ok(Settings {
             cells,
             password,

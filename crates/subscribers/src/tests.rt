@@ -40,7 +40,7 @@ class = \"alpha\"
 ";
 
 /// Why a file is refused, or None.
-fn fault(alloc: Global, file: &[u8]) -> Option<SettingsFault> {
+pub(crate) fn fault(alloc: Global, file: &[u8]) -> Option<SettingsFault> {
     Settings::read(alloc, file).err()
 }
 
@@ -66,7 +66,7 @@ fn filled(alloc: Global, line: &str, size: usize) -> Result<Vec<u8>, AllocError>
 }
 
 /// Documents of another form.
-const OF_ANOTHER_FORM: [&str; 30] = [
+const OF_ANOTHER_FORM: [&str; 33] = [
     "",
     "password = \"abcdef\"",
     "cells = \"64\"",
@@ -76,7 +76,10 @@ const OF_ANOTHER_FORM: [&str; 30] = [
     "cells = 1979-05-27",
     "cells.x = 64",
     "cells = 64\nextra = 1",
-    "cells = 64\nversion = 1",
+    "cells = 64\ngroup = []",
+    "cells = 64\nversion = \"1\"",
+    "cells = 64\nversion = 1.0",
+    "cells = 64\nversion = [1]",
     "cells = 64\npassword = 123456",
     "cells = 64\npassword = [\"abcdef\"]",
     "cells = 64\nsubscriber = 5",
@@ -269,6 +272,17 @@ fn the_number_of_bytes_is_bounded(rt: HostRuntime) -> Result<(), Fail> {
     Ok(())
 }
 
+/// How many capcodes an id has, the first of them, and its function.
+fn first(settings: &Settings, id: &[u8]) -> Option<(usize, u32, Function)> {
+    match settings.find(id) {
+        Some(target) => {
+            let count = target.count();
+            Some((count, target.member(0).number(), target.function()))
+        }
+        None => None,
+    }
+}
+
 /// The subscribers of `SIX`.
 const FOUND: [(&str, u32, Function); 6] = [
     ("5551234", 8, Function::Alpha),
@@ -288,10 +302,11 @@ fn ids_are_found(rt: HostRuntime) -> Result<(), Fail> {
     assert_eq!(rt; settings.cells(), 64);
     assert!(rt; settings.password().is_none());
     for (id, capcode, function) in FOUND {
-        let found = settings
-            .find(id.as_bytes())
-            .map(|s| (s.capcode.number(), s.function));
-        assert_eq!(rt; found, Some((capcode, function)), "{id}");
+        assert_eq!(rt;
+            first(&settings, id.as_bytes()),
+            Some((1, capcode, function)),
+            "{id}"
+        );
     }
     for id in ["", "5551235", "555123", "55512340", "08"] {
         assert!(rt; settings.find(id.as_bytes()).is_none(), "{id}");
@@ -382,10 +397,11 @@ fn numbers_are_ids(rt: HostRuntime) -> Result<(), Fail> {
     assert_eq!(rt; settings.cells(), 65_536);
     assert!(rt; settings.password().is_none());
     for (id, capcode, function) in DIGITS {
-        let found = settings
-            .find(id.as_bytes())
-            .map(|s| (s.capcode.number(), s.function));
-        assert_eq!(rt; found, Some((capcode, function)), "{id}");
+        assert_eq!(rt;
+            first(&settings, id.as_bytes()),
+            Some((1, capcode, function)),
+            "{id}"
+        );
     }
     for id in NO_DIGITS {
         assert!(rt; settings.find(id.as_bytes()).is_none(), "{id}");

@@ -15,15 +15,12 @@ use crate::goodbye::Leaving;
 use crate::hearing::{Listener, Mark};
 use crate::outcomes::Outcome;
 use arrayvec::ArrayVec;
-use entry_line::characters::MOST_DIGITS;
+use entry_line::characters::{CR, MOST_DIGITS};
 use page_text::LONGEST_TEXT;
 use std::marker::Model;
 use tap_block::{End, LONGEST_BODY, escape_into, put_block};
 use wires::Failed;
 use wires::sink::Sink;
-
-/// Carriage return, which ends each field of a content.
-const CR: u8 = 0x0D;
 
 /// The most characters of a field that spells a text.
 const LONGEST_FIELD: usize = 2 * LONGEST_TEXT;

@@ -1,8 +1,8 @@
 -- One character further in a session.
 use Rattle.std.proofs.Common.{◌≡◌, ℕ, ◌+◌, ◌<◌, ◌≤◌, cond, Bool, true, false, not, ◌||◌, ◌&&◌, List, [], ◌∷◌, ◌++◌, length, map, refl, ap, sym, ◌∙◌, subst, append_assoc, append-nil, arith, Option, Some, None, length-append, ◌⊎◌, inl, inr}
-use Rattle.std.specs.List.{filter_map}
+use Rattle.std.specs.List.{flat_map}
 use Rattle.std.specs.Option.{option_to_list, option_map}
-use Rattle.std.proofs.lemmas.List.Elements.{filter_map-append}
+use Rattle.std.proofs.lemmas.List.Concat.{flat_map-append}
 use Rattle.std.proofs.lemmas.List.{map-append, take_all}
 use Rattle.page_text.specs.Page.{Page}
 use Rattle.page_pool.specs.Pool.{Pool}
@@ -11,14 +11,15 @@ use Rattle.tap_block.specs.Brief.{ScannerState, ScannerStandsFor, ReadsOn, answe
 use Rattle.tap_block.specs.Reading.{Entry, empty_line, logon, wrong_line, a_block, a_bye, BeforeLogon}
 use Rattle.tap_terminal.specs.declared.answers.Answer.{Answer}
 use Rattle.tap_terminal.specs.declared.answers.Answer.TheVariants.{Nothing, End}
+use Rattle.tap_terminal.specs.declared.answers.Judgement.{Judgement}
 use Rattle.tap_terminal.specs.declared.report.Report.{Report}
 use Rattle.tap_terminal.specs.declared.terminal.Stage.{Stage}
 use Rattle.tap_terminal.specs.declared.terminal.Stage.TheVariants.{Open, Ended, Forced}
-use Rattle.tap_terminal.specs.Reports.{counter_of, counts, added}
+use Rattle.tap_terminal.specs.Reports.{Counter, counter_of, counters_of, counts, added_pages}
 use Rattle.subscribers.specs.Directory.{Directory}
 use Rattle.tap_terminal.specs.Session.{Course, ItemDecided, Session, start, decide, tell, has_end, has_wrong_end, is_end, is_wrong, answers_of, pages_of, report_of, IsSession}
 use Rattle.tap_terminal.specs.State.{TerminalState, course_at, course_of, sum_up, IsOpenAt, IsOver, StandsAt, Stands, HearsOn, IsItemJudged, KeepsSession, said, is_open, is_forced, stage_after}
-use Rattle.tap_terminal.proofs.Reports.{counts-push}
+use Rattle.tap_terminal.proofs.Reports.{counts-push_all}
 use Rattle.tap_terminal.proofs.Verdicts.{item_said}
 use Rattle.tap_terminal.proofs.Sessions.{tell-append_open, course_at-append, has_end-append, has_wrong_end-append, no_wrong_end, settled, short_settled, cut_off, over_by_end, over_by_length, session_from}
 
@@ -47,7 +48,7 @@ pub closed_on : (password : Option (List ℕ)) (directory : Directory) (spare : 
     → HearsOn password directory spare t x c session Nothing pool pool
 closed_on password directory spare t x c session pool h k = record {
   longer = session;
-  gained = None;
+  gained = [];
   stands = record { at_stage = over_at t.stage password directory spare t (x ++ c ∷ []) session pool.spare h longer; report_is = k.report_is; forced_is = k.forced_is };
   answers_are = sym (append-nil session.answers);
   pages_are = sym (append-nil session.pages);
@@ -75,7 +76,7 @@ full_on password directory spare t new x c session pool h e f r k =
     let told = tell directory (start spare) o.items in
     record {
       longer = cut_off told;
-      gained = None;
+      gained = [];
       stands = record {
         at_stage = over_at new.stage password directory spare new (x ++ c ∷ []) (cut_off told) pool.spare (ap is_open f)
             (over_by_length password directory spare t.scanner x o.items c o.scanner o.password_is (sym o.heard ∙ e) o.no_end);
@@ -99,7 +100,7 @@ quiet_on password directory spare t new x c session pool h few heard joined wron
     let r = reads o.items o.scanner in
     record {
       longer = session;
-      gained = None;
+      gained = [];
       stands = record {
         at_stage = subst (λ st. StandsAt st password directory spare new (x ++ c ∷ []) session pool.spare) (sym stage) (record {
           items = o.items;
@@ -135,11 +136,6 @@ told_one directory s e = ap (λ z. (decide directory s e).told ∷ z) (either (i
     either true = refl
     either false = refl
 
--- its page
-one_page : (o : Option Page) (t : ItemDecided) → t.page ≡ o → pages_of (t ∷ []) ≡ option_to_list o
-one_page None t h = ap (λ o. Rattle.std.specs.List.cons_option o []) h
-one_page (Some p) t h = ap (λ o. Rattle.std.specs.List.cons_option o []) h
-
 -- a stage that is open
 is_open_true : (st : Stage) → is_open st ≡ true → st ≡ Open
 is_open_true Open h = refl
@@ -154,17 +150,21 @@ or_false false = refl
 -- One item further: what is told, and where it comes to.
 pub record Further (directory : Directory) (spare : ℕ) (items : List Entry) (e : Entry) (m : Course) : Type 0 where
   pub answers_are : answers_of (tell directory (start spare) (items ++ e ∷ [])) ≡ answers_of (tell directory (start spare) items) ++ (decide directory m e).told.answer ∷ []
-  pub pages_are : pages_of (tell directory (start spare) (items ++ e ∷ [])) ≡ pages_of (tell directory (start spare) items) ++ option_to_list (decide directory m e).told.page
-  pub report_is : report_of (tell directory (start spare) (items ++ e ∷ [])) ≡ added (report_of (tell directory (start spare) items)) (counter_of (answer_of (decide directory m e).told.item) (decide directory m e).told.answer)
+  pub pages_are : pages_of (tell directory (start spare) (items ++ e ∷ [])) ≡ pages_of (tell directory (start spare) items) ++ (decide directory m e).told.pages
+  pub report_is : report_of (tell directory (start spare) (items ++ e ∷ [])) ≡ added_pages (report_of (tell directory (start spare) items)) (counter_of (answer_of (decide directory m e).told.item) (decide directory m e).told.answer) (length (decide directory m e).told.pages)
   pub end_is : has_end (tell directory (start spare) (items ++ e ∷ [])) ≡ is_end (decide directory m e).told.answer
   pub wrong_is : has_wrong_end (tell directory (start spare) (items ++ e ∷ [])) ≡ (is_wrong (decide directory m e).told.item && is_end (decide directory m e).told.answer)
   pub course_is : course_at directory (start spare) (items ++ e ∷ []) ≡ (decide directory m e).course
 
--- one counter more
-report_push : (told : List ItemDecided) (t : ItemDecided) → report_of (told ++ t ∷ []) ≡ added (report_of told) (counter_of (answer_of t.item) t.answer)
+-- what an item told is counted as
+abbrev counters_told : ItemDecided → List Counter
+counters_told t = counters_of (answer_of t.item) t.answer (length t.pages)
+
+-- one item more is counted
+report_push : (told : List ItemDecided) (t : ItemDecided) → report_of (told ++ t ∷ []) ≡ added_pages (report_of told) (counter_of (answer_of t.item) t.answer) (length t.pages)
 report_push told t =
-    ap counts (map-append (λ (z : ItemDecided). counter_of (answer_of z.item) z.answer) told (t ∷ []))
-    ∙ counts-push (map (λ (z : ItemDecided). counter_of (answer_of z.item) z.answer) told) (counter_of (answer_of t.item) t.answer)
+    ap counts (flat_map-append counters_told told (t ∷ []) ∙ ap (λ z. flat_map counters_told told ++ z) (append-nil (counters_told t)))
+    ∙ counts-push_all (flat_map counters_told told) (counter_of (answer_of t.item) t.answer) (length t.pages)
 
 -- while no End was told
 pub one_further : (directory : Directory) (spare : ℕ) (items : List Entry) (e : Entry) (m : Course) → has_end (tell directory (start spare) items) ≡ false
@@ -175,8 +175,8 @@ one_further directory spare items e m h k =
     ∙ ap (λ z. tell directory (start spare) items ++ z) (told_one directory (course_at directory (start spare) items) e ∙ ap (λ s. (decide directory s e).told ∷ []) k) in
     record {
       answers_are = ap answers_of told_is ∙ map-append (λ (t : ItemDecided). t.answer) (tell directory (start spare) items) ((decide directory m e).told ∷ []);
-      pages_are = ap pages_of told_is ∙ filter_map-append (λ (t : ItemDecided). t.page) (tell directory (start spare) items) ((decide directory m e).told ∷ [])
-          ∙ ap (λ z. pages_of (tell directory (start spare) items) ++ z) (one_page (decide directory m e).told.page (decide directory m e).told refl);
+      pages_are = ap pages_of told_is ∙ flat_map-append (λ (t : ItemDecided). t.pages) (tell directory (start spare) items) ((decide directory m e).told ∷ [])
+          ∙ ap (λ z. pages_of (tell directory (start spare) items) ++ z) (append-nil (decide directory m e).told.pages);
       report_is = ap report_of told_is ∙ report_push (tell directory (start spare) items) (decide directory m e).told;
       end_is = ap has_end told_is ∙ has_end-append (tell directory (start spare) items) ((decide directory m e).told ∷ []) ∙ ap (λ b. b || (is_end (decide directory m e).told.answer || false)) h ∙ or_false _;
       wrong_is = ap has_wrong_end told_is ∙ has_wrong_end-append (tell directory (start spare) items) ((decide directory m e).told ∷ [])
@@ -213,15 +213,15 @@ forced_after e answer = by_end (is_end answer) (is_wrong e)
 
 -- a character that completes an item, which is judged and then counted
 pub item_on : (password : Option (List ℕ)) (directory : Directory) (spare : ℕ) (t mid judged : TerminalState) (report : Report) (x : List ℕ) (c : ℕ) (session : Session)
-    (item : Item) (answer : Answer) (before after : Pool)
+    (item : Item) (judgement : Judgement) (before after : Pool)
     → t.stage ≡ Open → t.heard < 999999 → mid.heard ≡ t.heard + 1 → mid.joined ≡ t.joined → mid.wrong ≡ t.wrong → mid.report ≡ t.report
     → mid.scanner.password ≡ t.scanner.password
     → ((items : List Entry) → ScannerStandsFor BeforeLogon t.scanner x items → ReadsOn BeforeLogon mid.scanner x items c (Some item))
-    → ((e : Entry) → item ≡ answer_of e → BodyIs (Some e) mid.scanner.kept → IsItemJudged directory mid judged e answer before after)
-    → KeepsSession mid judged → report ≡ added judged.report (counter_of item answer)
+    → ((e : Entry) → item ≡ answer_of e → BodyIs (Some e) mid.scanner.kept → IsItemJudged directory mid judged e judgement before after)
+    → KeepsSession mid judged → report ≡ added_pages judged.report (counter_of item judgement.answer) judgement.pages
     → Stands password directory spare t x session before.spare
-    → HearsOn password directory spare (record judged { report = report }) x c session answer before after
-item_on password directory spare t mid judged report x c session item answer before after h few heard joined wrong kept same reads judges keeps counted k =
+    → HearsOn password directory spare (record judged { report = report }) x c session judgement.answer before after
+item_on password directory spare t mid judged report x c session item judgement before after h few heard joined wrong kept same reads judges keeps counted k =
     let o = open_of password directory spare t x session before.spare h k in
     let r = reads o.items o.scanner in
     found r.further r.answer_is r.body_is o r.stands
@@ -238,44 +238,46 @@ item_on password directory spare t mid judged report x c session item answer bef
     found : (further : Option Entry) → ◌≡◌ {A = Option Item} (Some item) (option_map answer_of further) → BodyIs further mid.scanner.kept
         → (o : IsOpenAt password directory spare t x session before.spare)
         → ScannerStandsFor BeforeLogon mid.scanner (x ++ c ∷ []) (o.items ++ option_to_list further)
-        → HearsOn password directory spare new x c session answer before after
+        → HearsOn password directory spare new x c session judgement.answer before after
     found None e b o s = absurd cc
     found (Some entry) e b o s =
         let item_is_entry : item ≡ answer_of entry = (cc) in
         let j = judges entry item_is_entry b in
         let f = one_further directory spare o.items entry m o.no_end (o.course ∙ ap (λ (z : List ℕ × ℕ). record { joined = z.0; spare = before.spare; wrong = z.1 }) (pair (sym joined) (sym wrong))) in
         let told = tell directory (start spare) (o.items ++ entry ∷ []) in
+        let answer = judgement.answer in
         let said_is : said answer ≡ (decide directory m entry).told.answer ∷ [] = ap said j.answer_is ∙ item_said directory m entry in
         let short : length (x ++ c ∷ []) ≤ 999999 = (let q = o.heard in simp length-append (omega arith)) in
         let report_is : report ≡ report_of told =
-        counted ∙ ap (λ (z : Report). added z (counter_of item answer)) (keeps.report ∙ kept ∙ k.report_is ∙ ap (λ (z : Session). z.report) o.session_is)
-        ∙ ap (λ (z : Item). added (report_of (tell directory (start spare) o.items)) (counter_of z answer)) (item_is_entry ∙ ap answer_of (sym (item_is directory m entry)))
-        ∙ ap (λ (z : Answer). added (report_of (tell directory (start spare) o.items)) (counter_of (answer_of (decide directory m entry).told.item) z)) j.answer_is
+        counted ∙ ap (λ (z : Report). added_pages z (counter_of item answer) judgement.pages) (keeps.report ∙ kept ∙ k.report_is ∙ ap (λ (z : Session). z.report) o.session_is)
+        ∙ ap (λ (z : Item). added_pages (report_of (tell directory (start spare) o.items)) (counter_of z answer) judgement.pages) (item_is_entry ∙ ap answer_of (sym (item_is directory m entry)))
+        ∙ ap (λ (z : Answer). added_pages (report_of (tell directory (start spare) o.items)) (counter_of (answer_of (decide directory m entry).told.item) z) judgement.pages) j.answer_is
+        ∙ ap (λ (z : ℕ). added_pages (report_of (tell directory (start spare) o.items)) (counter_of (answer_of (decide directory m entry).told.item) (decide directory m entry).told.answer) z) j.pages_are
         ∙ sym f.report_is in
         let forced_is : is_forced judged.stage ≡ has_wrong_end told =
         ap is_forced j.stage ∙ forced_after entry answer ∙ ap (λ (z : Entry). is_wrong z && is_end answer) (sym (item_is directory m entry))
         ∙ ap (λ (z : Answer). is_wrong (decide directory m entry).told.item && is_end z) j.answer_is ∙ sym f.wrong_is in
         record {
           longer = sum_up told;
-          gained = (decide directory m entry).told.page;
+          gained = (decide directory m entry).told.pages;
           stands = record { at_stage = goes (is_end answer) refl entry o s j f short; report_is = report_is; forced_is = forced_is };
           answers_are = f.answers_are ∙ ap (λ z. answers_of (tell directory (start spare) o.items) ++ z) (sym said_is) ∙ ap (λ (z : Session). z.answers ++ said answer) (sym o.session_is);
-          pages_are = f.pages_are ∙ ap (λ (z : Session). z.pages ++ option_to_list (decide directory m entry).told.page) (sym o.session_is);
+          pages_are = f.pages_are ∙ ap (λ (z : Session). z.pages ++ (decide directory m entry).told.pages) (sym o.session_is);
           pool = j.pool;
         }
       where
-        goes : (b : Bool) → is_end answer ≡ b → (entry : Entry) → (o : IsOpenAt password directory spare t x session before.spare)
-            → ScannerStandsFor BeforeLogon mid.scanner (x ++ c ∷ []) (o.items ++ entry ∷ []) → IsItemJudged directory mid judged entry answer before after → Further directory spare o.items entry m
+        goes : (b : Bool) → is_end judgement.answer ≡ b → (entry : Entry) → (o : IsOpenAt password directory spare t x session before.spare)
+            → ScannerStandsFor BeforeLogon mid.scanner (x ++ c ∷ []) (o.items ++ entry ∷ []) → IsItemJudged directory mid judged entry judgement before after → Further directory spare o.items entry m
             → length (x ++ c ∷ []) ≤ 999999
             → StandsAt judged.stage password directory spare new (x ++ c ∷ []) (sum_up (tell directory (start spare) (o.items ++ entry ∷ []))) after.spare
         goes true q entry o s j f short =
             let ended : has_end (tell directory (start spare) (o.items ++ entry ∷ [])) ≡ true = f.end_is ∙ ap is_end (sym j.answer_is) ∙ q in
             over_at judged.stage password directory spare new (x ++ c ∷ []) (sum_up (tell directory (start spare) (o.items ++ entry ∷ []))) after.spare
-            (ap is_open j.stage ∙ open_after entry answer ∙ ap not q)
+            (ap is_open j.stage ∙ open_after entry judgement.answer ∙ ap not q)
             (over_by_end password directory spare mid.scanner (x ++ c ∷ []) (o.items ++ entry ∷ []) s (same ∙ o.password_is) short ended)
         goes false q entry o s j f short =
             subst (λ st. StandsAt st password directory spare new (x ++ c ∷ []) (sum_up (tell directory (start spare) (o.items ++ entry ∷ []))) after.spare)
-            (sym (is_open_true judged.stage (ap is_open j.stage ∙ open_after entry answer ∙ ap not q))) (record {
+            (sym (is_open_true judged.stage (ap is_open j.stage ∙ open_after entry judgement.answer ∙ ap not q))) (record {
               items = o.items ++ entry ∷ [];
               scanner = subst (λ z. ScannerStandsFor BeforeLogon z (x ++ c ∷ []) (o.items ++ entry ∷ [])) (sym keeps.scanner) s;
               password_is = ap (λ (z : ScannerState). z.password) keeps.scanner ∙ same ∙ o.password_is;

@@ -2,7 +2,7 @@
 use Rattle.std.proofs.Common.{◌≡◌, ℕ, ◌-◌, ◌<◌, ◌≤◌, Bool, true, false, List, [], ◌++◌, length, take, refl, ap, sym, ◌∙◌, subst, append_assoc, append-nil, arith, Option, length-append, ◌⊎◌, inl, inr}
 use Rattle.std.proofs.lemmas.Bool.{cases_lt}
 use Rattle.std.proofs.lemmas.List.{take_all, take-append-le, map-append}
-use Rattle.std.proofs.lemmas.List.Elements.{filter_map-append}
+use Rattle.std.proofs.lemmas.List.Concat.{flat_map-append}
 use Rattle.tap_block.specs.Brief.{ScannerState, in_line}
 use Rattle.tap_block.specs.Reading.{Entry, BeforeLogon}
 use Rattle.tap_block.proofs.Grows.{stands_nil}
@@ -48,7 +48,7 @@ longer told rest count = record {
   answers = answers_of rest ++ closing (told ++ rest) count;
   pages = pages_of rest;
   answers_are = ap (λ z. z ++ closing (told ++ rest) count) (map-append (λ (t : ItemDecided). t.answer) told rest) ∙ append_assoc (answers_of told) (answers_of rest) (closing (told ++ rest) count);
-  pages_are = filter_map-append (λ (t : ItemDecided). t.page) told rest;
+  pages_are = flat_map-append (λ (t : ItemDecided). t.pages) told rest;
 }
 
 -- a front of at most 999,999 characters, by the items of both

@@ -3,5 +3,6 @@ pub mod Sessions
 pub mod Verdicts
 pub mod Feeds
 pub mod Cells
+pub mod Counted
 pub mod Fronts
 mod Rows

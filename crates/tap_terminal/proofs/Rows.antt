@@ -6,8 +6,7 @@ use Rattle.std.specs.Cmp.Lexicographic.{slice_cmp, nat_list_cmp_total}
 use Rattle.std.specs.FinMap.{find, from_entries, get, get-from_entries}
 use Rattle.codeword.specs.declared.functions.Function.TheVariants.{Numeric, Tone1, Alpha}
 use Rattle.page_text.specs.Page.{Page}
-use Rattle.subscribers.specs.Parts.{Ids}
-use Rattle.subscribers.specs.declared.subscriber.Subscriber.{Subscriber}
+use Rattle.subscribers.specs.Parts.{Ids, Target}
 use Rattle.entry_line.specs.Chars.{cr}
 use Rattle.tap_block.specs.Chars.{stx, etx, eot, us, sub, esc}
 use Rattle.tap_block.specs.Reading.{BeforeLogon, items_of}
@@ -19,15 +18,16 @@ use Rattle.tap_terminal.specs.Replies.{replies}
 use Rattle.subscribers.specs.Directory.{Directory}
 use Rattle.tap_terminal.specs.Session.{ItemDecided, Session, tell, start, session_of}
 
--- six subscribers
-abbrev subscribers : List (List ℕ × Subscriber)
+-- six subscribers and a group
+abbrev subscribers : List (List ℕ × Target)
 subscribers =
-    (codes "5551234", record { capcode = 8; function = Alpha })
-    ∷ (codes "5550002", record { capcode = 9; function = Numeric })
-    ∷ (codes "15", record { capcode = 15; function = Tone1 })
-    ∷ (codes "8", record { capcode = 8; function = Tone1 })
-    ∷ (codes "16", record { capcode = 16; function = Tone1 })
-    ∷ (codes "7", record { capcode = 15; function = Alpha })
+    (codes "5551234", record { function = Alpha; capcodes = 8 ∷ [] })
+    ∷ (codes "5550002", record { function = Numeric; capcodes = 9 ∷ [] })
+    ∷ (codes "15", record { function = Tone1; capcodes = 15 ∷ [] })
+    ∷ (codes "8", record { function = Tone1; capcodes = 8 ∷ [] })
+    ∷ (codes "16", record { function = Tone1; capcodes = 16 ∷ [] })
+    ∷ (codes "7", record { function = Alpha; capcodes = 15 ∷ [] })
+    ∷ (codes "900", record { function = Alpha; capcodes = 8 ∷ 15 ∷ 2000 ∷ [] })
     ∷ []
 
 -- their directory
@@ -149,6 +149,29 @@ two_parts = refl
 no_room : session 2 (log_on ++ block (codes "5551234") (replicate 64 65) (codes "1<8") ++ block (codes "5551234") (codes "A") (codes "1<9"))
     ≡ record { answers = Id ∷ Go ∷ Ack ∷ Rs Room ∷ []; pages = page_8 (replicate 64 65) ∷ []; report = record nothing { pages = 1; room = 1 }; forced = false }
 no_room = refl
+
+-- a block to the group of three
+abbrev to_group : List ℕ
+to_group = block (codes "900") (codes "A") (codes "0?9")
+
+-- a page of it
+abbrev group_page : ℕ → Page
+group_page capcode = record { capcode = capcode; function = Alpha; text = codes "A" }
+
+-- a page for each capcode, in their order
+group_of_three : session 64 (log_on ++ to_group ++ goodbye)
+    ≡ record {
+      answers = Id ∷ Go ∷ Ack ∷ End ∷ [];
+      pages = group_page 8 ∷ group_page 15 ∷ group_page 2000 ∷ [];
+      report = record nothing { pages = 3 };
+      forced = false;
+    }
+group_of_three = refl
+
+-- room for two of three, which another page takes
+room_for_two : session 2 (log_on ++ to_group ++ block (codes "5551234") (codes "A") (codes "1<9"))
+    ≡ record { answers = Id ∷ Go ∷ Rs Room ∷ Ack ∷ []; pages = page_8 (codes "A") ∷ []; report = record nothing { pages = 1; room = 1 }; forced = false }
+room_for_two = refl
 
 -- the front of a text of 242 letters and more
 abbrev front_of_text : List ℕ

@@ -1,5 +1,5 @@
 -- What the items of a session are counted as.
-use Rattle.std.specs.Prelude.{ℕ, ◌+◌, ◌==◌, List, count_by}
+use Rattle.std.specs.Prelude.{ℕ, ◌+◌, ◌==◌, List, [], ◌∷◌, replicate, count_by}
 use Rattle.tap_block.specs.declared.ends.End.{End}
 use Rattle.tap_block.specs.declared.ends.End.TheVariants.{Etx, Etb, Us}
 use Rattle.tap_block.specs.declared.items.Item.{Item}
@@ -35,6 +35,14 @@ counter_of Logon answer = uncounted
 counter_of WrongLine answer = a_wrong
 counter_of (Block e right size) answer = block_counter e answer
 counter_of Bye answer = uncounted
+
+-- an item is counted once, and a block whose pages are queued once for each of them
+abbrev pub counters_by : Counter → ℕ → List Counter
+counters_by a_page pages = replicate pages a_page
+counters_by other pages = other ∷ []
+
+abbrev pub counters_of : Item → Answer → ℕ → List Counter
+counters_of item answer pages = counters_by (counter_of item answer) pages
 
 -- the number of a counter
 abbrev pub counter_number : Counter → ℕ
@@ -83,6 +91,11 @@ added r (refusal Room) = record r { room = r.room + 1 }
 added r a_wrong = record r { wrong = r.wrong + 1 }
 added r uncounted = r
 
--- how many items a report counts
+-- a report with an item more, whose block queued so many pages
+abbrev pub added_pages : Report → Counter → ℕ → Report
+added_pages r a_page pages = record r { pages = r.pages + pages }
+added_pages r other pages = added r other
+
+-- how many pages and other items a report counts
 abbrev pub tally : Report → ℕ
 tally r = r.pages + r.continued + r.nak + r.body + r.content + r.form + r.unknown + r.text + r.room + r.wrong

@@ -1,15 +1,15 @@
 -- A whole session: docs/profile.md, "session" and "length of a session".
 use Rattle.entry_line.specs.Chars.{last_character}
-use Rattle.std.specs.Prelude.{◌≡◌, ℕ, ◌+◌, ◌-◌, nat_le, ◌==◌, Bool, true, false, ◌||◌, ◌&&◌, not, if◌then◌else◌, List, [], ◌∷◌, ◌++◌, length, take, map, Option, Some, None}
-use Rattle.std.specs.List.{filter_map}
+use Rattle.std.specs.Prelude.{◌≡◌, ℕ, ◌+◌, ◌-◌, nat_le, ◌==◌, Bool, true, false, ◌||◌, ◌&&◌, not, if◌then◌else◌, List, [], ◌∷◌, ◌++◌, length, take, map, Option}
+use Rattle.std.specs.List.{flat_map}
 use Rattle.page_text.specs.Page.{Page}
-use Rattle.page_pool.specs.Cells.{cells_of}
+use Rattle.page_pool.specs.Gains.{cells_of_all}
 use Rattle.tap_block.specs.Reading.{Entry, empty_line, logon, wrong_line, a_block, a_bye, BeforeLogon, InputPiece, Reads, items_of}
 use Rattle.tap_block.specs.Brief.{answer_of}
 use Rattle.tap_terminal.specs.declared.answers.Answer.{Answer}
 use Rattle.tap_terminal.specs.declared.answers.Answer.TheVariants.{Id, Go, Nak, End}
 use Rattle.tap_terminal.specs.declared.report.Report.{Report}
-use Rattle.tap_terminal.specs.Reports.{counter_of, counts}
+use Rattle.tap_terminal.specs.Reports.{counters_of, counts}
 use Rattle.subscribers.specs.Directory.{Directory}
 use Rattle.tap_terminal.specs.Verdict.{Verdict, verdict}
 
@@ -17,18 +17,13 @@ use Rattle.tap_terminal.specs.Verdict.{Verdict, verdict}
 pub record ItemDecided : Type 0 where
   pub item : Entry
   pub answer : Answer
-  pub page : Option Page
+  pub pages : List Page
 
 -- between two items: the content so far, the spare cells, and how many wrong lines there were
 pub record Course : Type 0 where
   pub joined : List ℕ
   pub spare : ℕ
   pub wrong : ℕ
-
--- the cells of a page, if there is one
-abbrev pub cells_for_page : Option Page → ℕ
-cells_for_page None = 0
-cells_for_page (Some page) = cells_of page
 
 -- what is decided at an item, and what is then
 pub record Decided : Type 0 where
@@ -38,13 +33,13 @@ pub record Decided : Type 0 where
 -- a block is answered by its verdict
 abbrev pub decided : Entry → Course → Verdict → Decided
 decided e s v = record {
-  told = record { item = e; answer = v.answer; page = v.page };
-  course = record s { joined = v.joined; spare = s.spare - cells_for_page v.page };
+  told = record { item = e; answer = v.answer; pages = v.pages };
+  course = record s { joined = v.joined; spare = s.spare - cells_of_all v.pages };
 }
 
 -- another item has this answer
 abbrev pub plainly : Entry → Answer → Course → Decided
-plainly e answer s = record { told = record { item = e; answer = answer; page = None }; course = s }
+plainly e answer s = record { told = record { item = e; answer = answer; pages = [] }; course = s }
 
 -- an item and its answer: the first and the second wrong line are answered Nak, and the third End
 abbrev pub decide : Directory → Course → Entry → Decided
@@ -74,11 +69,11 @@ answers_of told = map (λ t. t.answer) told
 
 -- the pages that were queued
 abbrev pub pages_of : List ItemDecided → List Page
-pages_of told = filter_map (λ t. t.page) told
+pages_of told = flat_map (λ t. t.pages) told
 
--- how often each answer came
+-- how often each answer came, and how many pages were queued
 abbrev pub report_of : List ItemDecided → Report
-report_of told = counts (map (λ t. counter_of (answer_of t.item) t.answer) told)
+report_of told = counts (flat_map (λ t. counters_of (answer_of t.item) t.answer (length t.pages)) told)
 
 -- an End is among them
 abbrev pub has_end : List ItemDecided → Bool

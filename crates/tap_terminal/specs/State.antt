@@ -1,12 +1,13 @@
 -- What a terminal holds, and the characters that it stands for.
 use Rattle.std.specs.Prelude.{◌≡◌, ℕ, ◌≤◌, Bool, true, false, List, [], ◌∷◌, ◌++◌, length, if◌then◌else◌, Option, Some, None}
-use Rattle.std.specs.Option.{option_to_list}
 use Rattle.page_text.specs.Page.{Page}
-use Rattle.page_pool.specs.Pool.{Pool, PutsPage}
+use Rattle.page_pool.specs.Gains.{Gains}
+use Rattle.page_pool.specs.Pool.{Pool}
 use Rattle.tap_block.specs.Brief.{ScannerState, ScannerStandsFor}
 use Rattle.tap_block.specs.Reading.{Entry, BeforeLogon}
 use Rattle.tap_terminal.specs.declared.answers.Answer.{Answer}
 use Rattle.tap_terminal.specs.declared.answers.Answer.TheVariants.{Nothing}
+use Rattle.tap_terminal.specs.declared.answers.Judgement.{Judgement}
 use Rattle.tap_terminal.specs.declared.report.Report.{Report}
 use Rattle.tap_terminal.specs.declared.terminal.Stage.{Stage}
 use Rattle.tap_terminal.specs.declared.terminal.Stage.TheVariants.{Open, Ended, Forced}
@@ -76,25 +77,20 @@ pub record Stands (password : Option (List ℕ)) (directory : Directory) (spare 
 abbrev pub unheard : Session
 unheard = sum_up []
 
--- the pool gained the page at its end, or is as it was where there is none
-abbrev pub GainsIfAny : Pool → Pool → Option Page → Type 0
-GainsIfAny old new None = new ≡ old
-GainsIfAny old new (Some page) = PutsPage old new page
-
 -- what is said: nothing for Nothing
 abbrev pub said : Answer → List Answer
 said Nothing = []
 said other = other ∷ []
 
--- One character more: the terminal stands for the longer list, whose session has this answer more, if one was given, and the page
--- that the pool gained, if it gained one.
+-- One character more: the terminal stands for the longer list, whose session has this answer more, if one was given, and the pages
+-- that the pool gained.
 pub record HearsOn (password : Option (List ℕ)) (directory : Directory) (spare : ℕ) (new : TerminalState) (x : List ℕ) (c : ℕ) (session : Session) (answer : Answer) (before after : Pool) : Type 0 where
   pub longer : Session
-  pub gained : Option Page
+  pub gained : List Page
   pub stands : Stands password directory spare new (x ++ c ∷ []) longer after.spare
   pub answers_are : longer.answers ≡ session.answers ++ said answer
-  pub pages_are : longer.pages ≡ session.pages ++ option_to_list gained
-  pub pool : GainsIfAny before after gained
+  pub pages_are : longer.pages ≡ session.pages ++ gained
+  pub pool : Gains before after gained
 
 -- the session goes on
 abbrev pub is_open : Stage → Bool
@@ -114,13 +110,15 @@ pub record KeepsSession (old new : TerminalState) : Type 0 where
   pub report : new.report ≡ old.report
 
 -- an item was judged so; it isn't counted yet
-pub record IsItemJudged (directory : Directory) (old new : TerminalState) (e : Entry) (answer : Answer) (before after : Pool) : Type 0 where
-  pub answer_is : answer ≡ (decide directory (course_of old before.spare) e).told.answer
+pub record IsItemJudged (directory : Directory) (old new : TerminalState) (e : Entry) (judged : Judgement) (before after : Pool) : Type 0 where
+  pub answer_is : judged.answer ≡ (decide directory (course_of old before.spare) e).told.answer
+  pub pages_are : judged.pages ≡ length (decide directory (course_of old before.spare) e).told.pages
   pub course : (decide directory (course_of old before.spare) e).course ≡ course_of new after.spare
-  pub stage : new.stage ≡ stage_after e answer
-  pub pool : GainsIfAny before after (decide directory (course_of old before.spare) e).told.page
+  pub stage : new.stage ≡ stage_after e judged.answer
+  pub pool : Gains before after (decide directory (course_of old before.spare) e).told.pages
 
 -- a verdict was carried out
-pub record IsVerdictDone (v : Verdict) (answer : Answer) (before after : Pool) : Type 0 where
-  pub answer_is : answer ≡ v.answer
-  pub pool : GainsIfAny before after v.page
+pub record IsVerdictDone (v : Verdict) (judged : Judgement) (before after : Pool) : Type 0 where
+  pub answer_is : judged.answer ≡ v.answer
+  pub pages_are : judged.pages ≡ length v.pages
+  pub pool : Gains before after v.pages

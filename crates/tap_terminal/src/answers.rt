@@ -8,15 +8,15 @@ ghost use Rattle.tap_terminal.specs.Replies.{reply_of};
 pub enum Reason {
     /// A body has more than 250 characters.
     Body,
-    /// The content has more than 1,000 characters.
+    /// The content has more than 2,200 characters.
     Content,
     /// The content has no two fields with a value.
     Form,
-    /// The value of the first field is no subscriber's id.
+    /// The value of the first field is the id of no subscriber and no group.
     Unknown,
-    /// The value of the second field doesn't fit the subscriber's function.
+    /// The value of the second field doesn't fit the id's function.
     Text,
-    /// The text needs more cells than are spare.
+    /// The text needs more cells for all capcodes of the id than are spare.
     Room,
 }
 
@@ -29,7 +29,7 @@ pub enum Answer {
     Id,
     /// A logon came. Blocks are wanted.
     Go,
-    /// A block is taken. Its page is queued, or the transaction goes on.
+    /// A block is taken. A page for each capcode of its id is queued, or the transaction goes on.
     Ack,
     /// The trailer of a block is wrong, or a line is. It may be sent again.
     Nak,
@@ -37,6 +37,29 @@ pub enum Answer {
     Rs(Reason),
     /// The session has ended.
     End,
+}
+
+/// An answer, and how many pages were queued with it, from 0 to 16.
+#[derive(Clone, Copy, Debug, PartialEq, Eq)]
+pub(crate) struct Judgement {
+    pub(crate) answer: Answer,
+    pub(crate) pages: u32,
+}
+
+/// An answer without pages.
+pub(crate) fn without_pages(answer: Answer) -> Judgement
+    ensures answer { result.answer ≡ answer }
+    ensures pages { result.pages ≡ 0 }
+{
+    Judgement { answer, pages: 0 }
+}
+
+/// The transaction is refused.
+pub(crate) fn refused(reason: Reason) -> Judgement
+    ensures answer { result.answer ≡ Answer.Rs reason }
+    ensures pages { result.pages ≡ 0 }
+{
+    without_pages(Answer::Rs(reason))
 }
 
 /// The bytes of an answer, and none for Nothing: docs/profile.md, "replies".

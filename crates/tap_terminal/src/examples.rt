@@ -19,7 +19,7 @@ pub(crate) struct Row {
 }
 
 /// The sessions.
-pub(crate) const ROWS: [Row; 16] = [
+pub(crate) const ROWS: [Row; 19] = [
     Row {
         cells: 64,
         heard: &[(b"\r\x1BPG1\r\x025551234\rHELLO\r\x032?<\r\x04\r", 0)],
@@ -236,6 +236,49 @@ pub(crate) const ROWS: [Row; 16] = [
         answers: &[Answer::Id, Answer::Go, Answer::Ack, Answer::End],
         pages: &[(8, Function::Alpha, b"HELLO")],
         counts: [1, 0, 0, 0, 0, 0, 0, 0, 0, 0],
+    },
+    Row {
+        cells: 64,
+        heard: &[(b"\r\x1BPG1\r\x02900\rA\r\x030?9\r\x04\r", 0)],
+        answers: &[Answer::Id, Answer::Go, Answer::Ack, Answer::End],
+        pages: &[
+            (8, Function::Alpha, b"A"),
+            (15, Function::Alpha, b"A"),
+            (2000, Function::Alpha, b"A"),
+        ],
+        counts: [3, 0, 0, 0, 0, 0, 0, 0, 0, 0],
+    },
+    Row {
+        cells: 2,
+        heard: &[(
+            b"\r\x1BPG1\r\x02900\rA\r\x030?9\r\x025551234\rA\r\x031<9\r\x04\r",
+            0,
+        )],
+        answers: &[
+            Answer::Id,
+            Answer::Go,
+            Answer::Rs(Reason::Room),
+            Answer::Ack,
+            Answer::End,
+        ],
+        pages: &[(8, Function::Alpha, b"A")],
+        counts: [1, 0, 0, 0, 0, 0, 0, 0, 1, 0],
+    },
+    Row {
+        cells: 3,
+        heard: &[(b"\r\x1BPG1\r\x02900\rA\r\x030?9\r\x02900\rA\r\x030?9\r", 0)],
+        answers: &[
+            Answer::Id,
+            Answer::Go,
+            Answer::Ack,
+            Answer::Rs(Reason::Room),
+        ],
+        pages: &[
+            (8, Function::Alpha, b"A"),
+            (15, Function::Alpha, b"A"),
+            (2000, Function::Alpha, b"A"),
+        ],
+        counts: [3, 0, 0, 0, 0, 0, 0, 0, 1, 0],
     },
     Row {
         cells: 64,

@@ -1,15 +1,15 @@
 //! How often each answer came.
 
-ghost use Rattle.std.specs.Prelude.{◌≡◌, ◌<◌};
-ghost use Rattle.tap_terminal.specs.Reports.{added, block_counter, counter_of, refusal, tally};
+ghost use Rattle.std.specs.Prelude.{◌≡◌, ◌<◌, ◌≤◌};
+ghost use Rattle.tap_terminal.specs.Reports.{added, added_pages, block_counter, counter_of, refusal, tally};
 
-use crate::answers::{Answer, Reason};
+use crate::answers::{Answer, Judgement, Reason};
 use tap_block::{End, Item};
 
-/// How many items of a session had each answer: docs/profile.md, "report".
+/// How many pages a session queued, and how many of its items had each other answer: docs/profile.md, "report".
 #[derive(Clone, Copy, Debug, PartialEq, Eq)]
 pub struct Report {
-    /// Blocks whose page was queued.
+    /// Pages that were queued. A block may queue up to 16.
     pub pages: u32,
     /// Blocks that were taken and whose transaction goes on.
     pub continued: u32,
@@ -46,25 +46,27 @@ pub(crate) const EMPTY: Report = Report {
 };
 
 impl Report {
-    /// Counts an item and its answer.
-    pub(crate) fn count(&mut self, item: Item, answer: Answer)
-        requires { tally self.old < 1000000 }
-        ensures { self.new ≡ added self.old (counter_of item answer) }
+    /// Counts an item by its answer, and the pages that it queued.
+    pub(crate) fn count(&mut self, item: Item, judged: Judgement)
+        requires room { tally self.old < 16000000 }
+        requires few { judged.pages ≤ 16 }
+        ensures { self.new ≡ added_pages self.old (counter_of item judged.answer) judged.pages }
     {
         match item {
             Item::EmptyLine | Item::Logon | Item::Bye => {}
             Item::WrongLine => self.wrong += 1,
-            Item::Block { end, .. } => self.count_block(end, answer),
+            Item::Block { end, .. } => self.count_block(end, judged),
         }
     }
 
-    /// Counts a block and its answer.
-    fn count_block(&mut self, end: End, answer: Answer)
-        requires { tally self.old < 1000000 }
-        ensures { self.new ≡ added self.old (block_counter end answer) }
+    /// Counts a block by its answer, and the pages that it queued.
+    fn count_block(&mut self, end: End, judged: Judgement)
+        requires room { tally self.old < 16000000 }
+        requires few { judged.pages ≤ 16 }
+        ensures { self.new ≡ added_pages self.old (block_counter end judged.answer) judged.pages }
     {
-        match answer {
-            Answer::Ack if end == End::Etx => self.pages += 1,
+        match judged.answer {
+            Answer::Ack if end == End::Etx => self.pages += judged.pages,
             Answer::Ack => self.continued += 1,
             Answer::Nak => self.nak += 1,
             Answer::Rs(reason) => self.count_refusal(reason),
@@ -74,7 +76,7 @@ impl Report {
 
     /// Counts a refusal.
     fn count_refusal(&mut self, reason: Reason)
-        requires { tally self.old < 1000000 }
+        requires { tally self.old < 16000000 }
         ensures { self.new ≡ added self.old (refusal reason) }
     {
         match reason {

@@ -16,8 +16,8 @@ ghost use Rattle.subscribers.specs.Directory.{Directory, directory_of};
 ghost use Rattle.tap_terminal.specs.Session.{Session};
 ghost use Rattle.tap_terminal.specs.State.{Stands, HearsOn, IsItemJudged, KeepsSession, unheard};
 
-use crate::answers::{Answer, Reason};
-use crate::contents::judge_content;
+use crate::answers::{Answer, Judgement, Reason, refused, without_pages};
+use crate::contents::{Values, judge_content};
 use crate::report::{EMPTY, Report};
 use arrayvec::ArrayVec;
 use entry_line::characters::LAST_CHARACTER;
@@ -50,6 +50,8 @@ pub struct Terminal {
     scanner: Scanner,
     /// The content of the transaction so far.
     joined: ArrayVec<u8, LONGEST_CONTENT>,
+    /// Room for the values of a whole content.
+    values: Values,
     /// How many characters came.
     heard: u32,
     /// How many wrong lines came.
@@ -80,6 +82,7 @@ impl Terminal {
             password,
             scanner: Scanner::new(password),
             joined: ArrayVec::new(),
+            values: Values::new(),
             heard: 0,
             wrong: 0,
             report: EMPTY,
@@ -99,7 +102,7 @@ impl Terminal {
     /// the session's millionth, or an End came before.
     ///
     /// Whatever was fed before: where the terminal stands for those characters, it now stands for them and this one. The answers of
-    /// the longer session are those before and this one, and its pages are those before and the one that the pool gained, if any. The
+    /// the longer session are those before and this one, and its pages are those before and those that the pool gained. The
     /// pool has the cells that it had.
     pub fn feed(&mut self, byte: u8, settings: &Settings, pool: &mut Pool) -> Answer
         ensures password { self.new.password ≡ self.old.password }
@@ -120,9 +123,9 @@ impl Terminal {
         match self.scanner.feed(byte) {
             None => Answer::Nothing,
             Some(item) => {
-                let answer = self.judge(item, settings, pool);
-                self.report.count(item, answer);
-                answer
+                let judged = self.judge(item, settings, pool);
+                self.report.count(item, judged);
+                judged.answer
             }
         }
     }
@@ -147,29 +150,30 @@ impl Terminal {
     }
 
     /// Answers an item.
-    fn judge(&mut self, item: Item, settings: &Settings, pool: &mut Pool) -> Answer
+    fn judge(&mut self, item: Item, settings: &Settings, pool: &mut Pool) -> Judgement
         requires room { self.old.wrong < self.old.heard }
         requires stage { self.old.stage ≡ Stage.Open }
         ensures keeps { KeepsSession self.old self.new }
         ensures judged { (e : Entry) → item ≡ answer_of e → BodyIs (Some e) self.old.scanner.kept
             → IsItemJudged (directory_of settings.now) self.old self.new e result pool.old pool.new }
+        ensures few { result.pages ≤ 16 }
         ensures cells_stay { cells pool.new ≡ cells pool.old }
     {
         match item {
-            Item::EmptyLine => Answer::Id,
-            Item::Logon => Answer::Go,
+            Item::EmptyLine => without_pages(Answer::Id),
+            Item::Logon => without_pages(Answer::Go),
             Item::WrongLine => {
                 self.wrong += 1;
                 if self.wrong == LAST_WRONG_LINE {
                     self.stage = Stage::Forced;
-                    Answer::End
+                    without_pages(Answer::End)
                 } else {
-                    Answer::Nak
+                    without_pages(Answer::Nak)
                 }
             }
             Item::Bye => {
                 self.stage = Stage::Ended;
-                Answer::End
+                without_pages(Answer::End)
             }
             Item::Block {
                 end,
@@ -187,32 +191,38 @@ impl Terminal {
         length: u32,
         settings: &Settings,
         pool: &mut Pool,
-    ) -> Answer
+    ) -> Judgement
         requires { self.old.stage ≡ Stage.Open }
         ensures keeps { KeepsSession self.old self.new }
         ensures judged { (b : List ℕ) → length ≡ min (length_of b) 251 → self.old.scanner.kept ≡ take 250 b
             → IsItemJudged (directory_of settings.now) self.old self.new (a_block b end sum_ok) result pool.old pool.new }
+        ensures few { result.pages ≤ 16 }
         ensures cells_stay { cells pool.new ≡ cells pool.old }
     {
         if !sum_ok {
-            return Answer::Nak;
+            return without_pages(Answer::Nak);
         }
         if length as usize > LONGEST_BODY {
             self.joined.clear();
-            return Answer::Rs(Reason::Body);
+            return refused(Reason::Body);
         }
         let body = self.scanner.body();
         if self.joined.len() + body.len() > LONGEST_CONTENT {
             self.joined.clear();
-            return Answer::Rs(Reason::Content);
+            return refused(Reason::Content);
         }
         append(&mut self.joined, body);
         match end {
-            End::Etb | End::Us => Answer::Ack,
+            End::Etb | End::Us => without_pages(Answer::Ack),
             End::Etx => {
-                let answer = judge_content(self.joined.as_slice(), settings, pool);
+                let judged = judge_content(
+                    self.joined.as_slice(),
+                    &mut self.values,
+                    settings,
+                    pool,
+                );
                 self.joined.clear();
-                answer
+                judged
             }
         }
     }

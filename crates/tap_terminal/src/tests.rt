@@ -1,4 +1,4 @@
-//! Worked sessions with six subscribers, in cuts, and sessions beside those of a plain program; the length of a session, its
+//! Worked sessions with six subscribers and a group, in cuts, and sessions beside those of a plain program; the length of a session, its
 //! password, and the replies.
 ghost use Rattle.std.specs.Prelude.{IfSome};
 ghost use Rattle.page_pool.specs.Pool.{IsLive};
@@ -13,8 +13,9 @@ use std::process::Abort;
 use std::test::Fail;
 use subscribers::Settings;
 
-/// Six subscribers.
-const SIX: &[u8] = b"cells = 64
+/// Six subscribers and a group of three capcodes.
+const SIX_AND_A_GROUP: &[u8] = b"version = 2
+cells = 64
 subscriber = [
   {id = \"5551234\", capcode = 8, class = \"alpha\"},
   {id = \"5550002\", capcode = 9, class = \"numeric\"},
@@ -23,6 +24,7 @@ subscriber = [
   {id = \"16\", capcode = 16, class = \"tone1\"},
   {id = \"7\", capcode = 15, class = \"alpha\"},
 ]
+group = [{id = \"900\", capcodes = [8, 15, 2000], class = \"alpha\"}]
 ";
 
 /// The settings of a file.
@@ -136,12 +138,13 @@ fn compare(
         assert!(rt; take(alloc, &mut pool, *page)?, "cut at {cut}");
     }
     assert_eq!(rt; pool.count(), 0, "cut at {cut}");
+    assert_eq!(rt; pool.spare(), row.cells, "cut at {cut}");
     Ok(())
 }
 
 #[test]
 fn sessions_are_answered(rt: HostRuntime) -> Result<(), Fail> {
-    let settings = settings(rt.alloc(), SIX)?;
+    let settings = settings(rt.alloc(), SIX_AND_A_GROUP)?;
     for row in &ROWS {
         for cut in 0..=60 {
             compare(&rt, rt.alloc(), &settings, row, cut)?;
@@ -179,7 +182,7 @@ fn agree(
 
 #[test]
 fn sessions_are_those_of_the_plain_program(rt: HostRuntime) -> Result<(), Fail> {
-    let settings = settings(rt.alloc(), SIX)?;
+    let settings = settings(rt.alloc(), SIX_AND_A_GROUP)?;
     for pieces in &SESSIONS {
         let heard = characters(rt.alloc(), pieces)?;
         for cut in 0..=80 {
@@ -195,7 +198,7 @@ fn sessions_are_those_of_the_plain_program(rt: HostRuntime) -> Result<(), Fail> 
 
 #[test]
 fn the_millionth_character_ends_a_session(rt: HostRuntime) -> Result<(), Fail> {
-    let settings = settings(rt.alloc(), SIX)?;
+    let settings = settings(rt.alloc(), SIX_AND_A_GROUP)?;
     let mut pool = Pool::new(rt.alloc(), 1)?;
     let mut terminal = Terminal::new(None);
     for k in 0..999_999u32 {

@@ -200,7 +200,7 @@ fn judge(
     queue(alloc, settings, joined.as_slice(), spare, pages)
 }
 
-/// Answers a whole content, and queues its page.
+/// Answers a whole content, and queues its pages.
 fn queue(
     alloc: Global,
     settings: &Settings,
@@ -214,23 +214,34 @@ fn queue(
     let (Some(id), Some(text)) = (value(alloc, first)?, value(alloc, second)?) else {
         return Ok(Answer::Rs(Reason::Form));
     };
-    let Some(subscriber) = settings.find(&id) else {
+    let Some(target) = settings.find(&id) else {
         return Ok(Answer::Rs(Reason::Unknown));
     };
-    if fits(subscriber.function, &text).is_err() {
+    if fits(target.function(), &text).is_err() {
         return Ok(Answer::Rs(Reason::Text));
     }
     let cells = ((text.len() / 32 + (text.len() % 32).min(1)).max(1)) as u32;
-    if *spare < cells {
+    let Some(left) = left_after(*spare, cells, target.count()) else {
         return Ok(Answer::Rs(Reason::Room));
+    };
+    *spare = left;
+    for capcode in target.capcodes() {
+        pages.push(Queued {
+            capcode: capcode.number(),
+            function: target.function(),
+            text: text.as_slice().to_vec(alloc)?,
+        })?;
     }
-    *spare -= cells;
-    pages.push(Queued {
-        capcode: subscriber.capcode.number(),
-        function: subscriber.function,
-        text,
-    })?;
     Ok(Answer::Ack)
+}
+
+/// The cells that are spare after so many pages of so many cells each. None where they have no room.
+fn left_after(spare: u32, cells: u32, pages: usize) -> Option<u32> {
+    let mut left = spare;
+    for _ in 0..pages {
+        left = left.checked_sub(cells)?;
+    }
+    Some(left)
 }
 
 /// The value of a field.

@@ -1,4 +1,4 @@
-use Rattle.std.proofs.Common.{refl, sym, ◌∙◌, ap, subst, arith, ℕ, List}
+use Rattle.std.proofs.Common.{refl, sym, ◌∙◌, ap, subst, ℕ, List}
 use Rattle.snpp_entry.specs.declared.answers.SnppAnswer.TheVariants.{Command}
 use Rattle.snpp_entry.specs.Lines.{without_cr}
 use Rattle.subscribers.specs.Directory.{directory_of}
@@ -6,7 +6,7 @@ use Rattle.snpp_entry.specs.Rows.{outcome, Outcome}
 use Rattle.snpp_entry.specs.Seen.{pending_of}
 use Rattle.snpp_entry.specs.State.{IsOutcomeDone}
 use Rattle.snpp_entry.proofs.Pieces.{kept_whole, long_line}
-use Rattle.snpp_entry.proofs.Outcomes.{long_outcome, usual}
+use Rattle.snpp_entry.proofs.Outcomes.{long_outcome}
 use Rattle.snpp_entry.proofs.pending.answer_piece.Goals as goal
 
 pub returns-then-count-clause-done : goal.returns-then-count-clause-done
@@ -18,9 +18,4 @@ returns-then-count-clause-done c piece h =
 pub returns-clause-done : goal.returns-clause-done
 returns-clause-done c piece h =
     subst (λ (line : List ℕ). IsOutcomeDone (outcome (directory_of c.args.settings.now) c.args.pool.now.spare (pending_of c.args.pending.now) line) c.answer.result.0 c.answer.result.1 (pending_of c.answer.new.pending) c.args.pool.now c.answer.new.pool)
-    (c.line_of.ensures.line ∙ ap without_cr (kept_whole piece c.args.kept.now c.args.count h c.if-count.false)) c.answer.ensures
-
-pub returns-clause-few : goal.returns-clause-few
-returns-clause-few c =
-    let e = c.answer.ensures.count_is in
-    let u = (usual (directory_of c.args.settings.now) c.args.pool.now.spare (pending_of c.args.pending.now) c.line_of.result.now).few in omega (arith, e, u)
+    (c.line_of.ensures.line ∙ ap without_cr (kept_whole piece c.args.kept.now c.args.count h c.if-count.false)) c.answer.ensures.done

@@ -11,5 +11,5 @@ use Rattle.subscribers.proofs.document.has_only_file_keys.Goals as goal
 pub returns : goal.returns
 returns c =
     let es = c.args.table.now.entries in
-    all_from_yields_List (λ k. list_any (bytes_eq (string_bytes k)) file_keys) _ _ _ c.all.ensures.ran (YieldsList-from_rest (tree.keys_of es) c.keys.ensures.rest) (λ x b q k. search (rules, tests))
-    ∙ has_only-view file_keys es
+    all_from_yields_List (λ k. list_any (bytes_eq (string_bytes k)) (file_keys c.args.version)) _ _ _ c.all.ensures.ran (YieldsList-from_rest (tree.keys_of es) c.keys.ensures.rest) (λ x b q k. search (rules, tests))
+    ∙ has_only-view (file_keys c.args.version) es

@@ -1,12 +1,24 @@
-use Rattle.std.proofs.Common.{refl, sym, ◌∙◌}
+use Rattle.std.proofs.Common.{◌≡◌, ◌*◌, ◌<◌, ◌≤◌, ℕ, length, refl, sym, ap, subst, arith, ◌∙◌}
+use Rattle.page_text.specs.Fits.{Fits}
+use Rattle.page_pool.specs.Cells.{cells_for}
+use Rattle.page_pool.specs.Gains.{Gains, pages_to}
 use Rattle.tap_terminal.proofs.Verdicts.{misfit_done, full_done, put_done}
 use Rattle.tap_terminal.proofs.contents.queue.Goals as goal
 
-pub returns-in-Err : goal.returns-in-Err
-returns-in-Err c = misfit_done _ c.in-Some.subscriber c.args.text.now c.args.pool.now (sym c.find.ensures ∙ c.in-Some.is) (λ h. (let e = c.in-Err.ensures.fits.1 h in cc))
+not_less : (a b : ℕ) → (a < b → ⊥) → b ≤ a
+not_less a b h = omega arith
 
-pub returns-in-Ok-put : goal.returns-in-Ok-put
-returns-in-Ok-put c = put_done _ c.in-Some.subscriber c.args.text.now c.args.pool.now c.put.new.self (sym c.find.ensures ∙ c.in-Some.is) (c.in-Ok.ensures.fits.0 refl) c.in-Ok-put.ensures.put
+pub returns-in-Err-clause-done : goal.returns-in-Err-clause-done
+returns-in-Err-clause-done c = misfit_done _ c.in-Some.target c.args.text.now c.refused-in-Err.result c.args.pool.now c.refused-in-Err.ensures.answer c.refused-in-Err.ensures.pages (sym c.find.ensures ∙ c.in-Some.is) (λ h. (let e = c.in-Err.ensures.fits.1 (subst (λ f. Fits f c.args.text.now) (sym c.function.ensures) h) in cc))
 
-pub returns-in-Err-put : goal.returns-in-Err-put
-returns-in-Err-put c = full_done _ c.in-Some.subscriber c.args.text.now c.args.pool.now c.put.new.self (sym c.find.ensures ∙ c.in-Some.is) (c.in-Ok.ensures.fits.0 refl) (c.in-Err-put.ensures.full.0 refl) c.in-Err-put.ensures.unchanged
+pub returns-in-Ok-put_all-clause-done : goal.returns-in-Ok-put_all-clause-done
+returns-in-Ok-put_all-clause-done c =
+    put_done _ c.in-Some.target c.args.text.now c.count.result c.args.pool.now c.put_all.new.self (sym c.find.ensures ∙ c.in-Some.is) (subst (λ f. Fits f c.args.text.now) c.function.ensures (c.in-Ok.ensures.fits.0 refl)) c.count.ensures.value
+    (subst (λ cs. cells_for (length c.args.text.now) * length cs ≤ c.args.pool.now.spare) c.capcodes.ensures.value (not_less _ _ (λ h. (let e = c.in-Ok-put_all.ensures.full.1 h in cc))))
+    (subst (λ f. Gains c.args.pool.now c.put_all.new.self (pages_to c.in-Some.target.capcodes f c.args.text.now)) c.function-in-Ok.ensures
+    (subst (λ cs. Gains c.args.pool.now c.put_all.new.self (pages_to cs c.function-in-Ok.result c.args.text.now)) c.capcodes.ensures.value c.in-Ok-put_all.ensures.put))
+
+pub returns-in-Err-put_all-clause-done : goal.returns-in-Err-put_all-clause-done
+returns-in-Err-put_all-clause-done c =
+    full_done _ c.in-Some.target c.args.text.now c.refused-in-Err-put_all.result c.args.pool.now c.put_all.new.self c.refused-in-Err-put_all.ensures.answer c.refused-in-Err-put_all.ensures.pages (sym c.find.ensures ∙ c.in-Some.is) (subst (λ f. Fits f c.args.text.now) c.function.ensures (c.in-Ok.ensures.fits.0 refl))
+    (subst (λ cs. c.args.pool.now.spare < cells_for (length c.args.text.now) * length cs) c.capcodes.ensures.value (c.in-Err-put_all.ensures.full.0 refl)) c.in-Err-put_all.ensures.unchanged

@@ -1,4 +1,4 @@
-use Rattle.std.proofs.Common.{◌≡◌, ◌<◌, ◌≤◌, ◌+◌, refl, ap, sym, subst, ◌∙◌, arith}
+use Rattle.std.proofs.Common.{◌≡◌, ◌<◌, ◌≤◌, ◌+◌, ◌*◌, refl, ap, sym, subst, ◌∙◌, arith}
 use Rattle.tap_block.specs.Brief.{ReadsOn}
 use Rattle.entry_line.specs.Chars.{char_of}
 use Rattle.tap_block.specs.Reading.{BeforeLogon}
@@ -7,7 +7,7 @@ use Rattle.subscribers.specs.Directory.{directory_of}
 use Rattle.tap_terminal.specs.State.{TerminalState, Stands, IsItemJudged, KeepsSession, is_open}
 use Rattle.tap_terminal.specs.declared.report.Report.{Report}
 use Rattle.tap_terminal.specs.Reports.{counter_of, tally}
-use Rattle.tap_terminal.proofs.Reports.{tally_added}
+use Rattle.tap_terminal.proofs.Reports.{tally_added_pages}
 use Rattle.tap_terminal.proofs.Feeds.{closed_on, closed_stage, full_on, quiet_on, item_on}
 use Rattle.tap_terminal.proofs.terminal.Terminal.feed.Goals as goal
 
@@ -28,16 +28,17 @@ returns-then-self-eq-LAST_CHARACTER-clause-hears c password spare x session k =
 
 pub invariant_of-self-in-Some-2 : goal.invariant_of-self-in-Some-2
 invariant_of-self-in-Some-2 c =
-    let kept = c.judge-answer.ensures.keeps in
+    let kept = c.judge-judged.ensures.keeps in
     let heard : c.self-in-Some.inside.heard ≡ c.self.inside.heard + 1 = ap (λ (d : TerminalState). d.heard) c.self-in-Some.view_is ∙ kept.heard in
     let report : c.self-in-Some.inside.report ≡ c.self.inside.report = ap (λ (d : TerminalState). d.report) c.self-in-Some.view_is ∙ kept.report in
-    let before : tally c.self-in-Some.inside.report ≤ c.self.inside.heard = subst (λ (r : Report). tally r ≤ c.self.inside.heard) (sym report) c.self.invariant.report_bound in
-    let after : tally c.count.new.self ≤ c.self.inside.heard + 1 =
-    subst (λ (r : Report). tally r ≤ c.self.inside.heard + 1) (sym c.count.ensures) (tally_added c.self-in-Some.inside.report (counter_of c.in-Some.item c.judge-answer.result) c.self.inside.heard before) in
+    let before : tally c.self-in-Some.inside.report ≤ 16 * c.self.inside.heard = subst (λ (r : Report). tally r ≤ 16 * c.self.inside.heard) (sym report) c.self.invariant.report_bound in
+    let after : tally c.count.new.self ≤ 16 * (c.self.inside.heard + 1) =
+    subst (λ (r : Report). tally r ≤ 16 * (c.self.inside.heard + 1)) (sym c.count.ensures)
+    (tally_added_pages c.self-in-Some.inside.report (counter_of c.in-Some.item c.judge-judged.result.answer) c.judge-judged.result.pages c.self.inside.heard c.judge-judged.ensures.few before) in
     record {
       heard_bound = c.self-in-Some.invariant.heard_bound;
       wrong_bound = c.self-in-Some.invariant.wrong_bound;
-      report_bound = subst (λ n. tally c.count.new.self ≤ n) (sym heard) after;
+      report_bound = subst (λ n. tally c.count.new.self ≤ 16 * n) (sym heard) after;
     }
 
 pub returns-in-None-clause-hears : goal.returns-in-None-clause-hears
@@ -50,7 +51,7 @@ returns-in-None-clause-hears c password spare x session k =
 
 pub returns-in-Some-clause-password : goal.returns-in-Some-clause-password
 returns-in-Some-clause-password c =
-    ap (λ (d : TerminalState). d.password) c.self-in-Some.view_is ∙ c.judge-answer.ensures.keeps.password ∙ ap (λ (d : TerminalState). d.password) c.self.view_is
+    ap (λ (d : TerminalState). d.password) c.self-in-Some.view_is ∙ c.judge-judged.ensures.keeps.password ∙ ap (λ (d : TerminalState). d.password) c.self.view_is
 
 pub returns-in-Some-clause-hears : goal.returns-in-Some-clause-hears
 returns-in-Some-clause-hears c password spare x session k =
@@ -58,10 +59,10 @@ returns-in-Some-clause-hears c password spare x session k =
     let f = directory_of c.args.settings.now in
     let mid = terminal_state_of (record c.self.inside { heard = c.self.inside.heard + 1; scanner = c.feed.new.self }) in
     let judged = terminal_state_of c.self-in-Some.inside in
-    item_on password f spare (terminal_state_of c.self.inside) mid judged c.count.new.self x (char_of c.args.byte) session c.in-Some.item c.judge-answer.result c.args.pool.now c.judge-answer.new.pool
+    item_on password f spare (terminal_state_of c.self.inside) mid judged c.count.new.self x (char_of c.args.byte) session c.in-Some.item c.judge-judged.result c.args.pool.now c.judge-judged.new.pool
     c.in-Open.is few refl refl refl refl c.feed.ensures.password
     (λ items s. subst (λ r. ReadsOn BeforeLogon c.feed.new.self x items (char_of c.args.byte) r) c.in-Some.is (c.feed.ensures.reads BeforeLogon x items s))
-    (λ e h b. subst (λ (d : TerminalState). IsItemJudged f mid d e c.judge-answer.result c.args.pool.now c.judge-answer.new.pool) (sym c.self-in-Some.view_is) (c.judge-answer.ensures.judged e h b))
-    (subst (λ (d : TerminalState). KeepsSession mid d) (sym c.self-in-Some.view_is) c.judge-answer.ensures.keeps)
+    (λ e h b. subst (λ (d : TerminalState). IsItemJudged f mid d e c.judge-judged.result c.args.pool.now c.judge-judged.new.pool) (sym c.self-in-Some.view_is) (c.judge-judged.ensures.judged e h b))
+    (subst (λ (d : TerminalState). KeepsSession mid d) (sym c.self-in-Some.view_is) c.judge-judged.ensures.keeps)
     c.count.ensures
     (subst (λ (d : TerminalState). Stands password f spare d x session c.args.pool.now.spare) (sym c.self.view_is) k)

@@ -1,0 +1,9 @@
+use Rattle.std.proofs.Common.{◌≡◌, drop}
+use Rattle.toml.specs.View.{items_view}
+use Rattle.subscribers.specs.Form.{all_of, group_entry_of}
+use Rattle.subscribers.specs.Seen.{seen_groups}
+use Rattle.subscribers.proofs.Forms.{behind}
+use Rattle.subscribers.proofs.tables.groups_from.Given as goal
+
+abbrev pub invariant-loop-value : goal.invariant-loop-value
+invariant-loop-value l = behind (seen_groups l.groups.items) (all_of group_entry_of (items_view (drop l.value-index l.items))) ≡ all_of group_entry_of (items_view l.items)
