@@ -1,2 +1,3 @@
 pub mod Lists
 pub mod Talks
+pub mod OneBytes

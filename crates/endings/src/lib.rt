@@ -11,3 +11,6 @@ pub mod lines;
 pub mod statuses;
 
 pub use statuses::Status;
+
+#[cfg(test)]
+mod tests;

@@ -1,25 +1,21 @@
 //! The program `pocsag`: it hands its words, its standard streams, the files and the connections of the system to `station::run`, and
-//! ends with the exit code of the status that `run` answers. It is the edge to the system: what streams, files and connections carry is
-//! told by nobody, and no proof speaks of it.
+//! ends with the exit code of the status that `run` answers. `system_io` has what it hands over.
 //!
-//! - `streams`: a source over a reader, a sink over a writer.
-//! - `file_shelf`: the files of the system as a shelf.
-//! - `tcp_wire`: connections over TCP as a wire.
+//! - `connection_tests`: sessions of a station over real connections.
 #![tactic(auto)]
 
-mod file_shelf;
-mod streams;
-mod tcp_wire;
+#[cfg(test)]
+mod connection_tests;
 
-use file_shelf::FileShelf;
 use station::{Status, run, tell};
 use std::alloc::AllocError;
 use std::env;
 use std::env::Env;
 use std::io::ErrorKind;
 use std::process::ExitCode;
-use streams::{InSource, OutSink};
-use tcp_wire::TcpWire;
+use system_io::file_shelf::FileShelf;
+use system_io::streams::{InSource, OutSink};
+use system_io::tcp_wire::TcpWire;
 
 /// The words after the program's name. Where one of them isn't UTF-8 there are none, which is no command's form either.
 fn words<R: Env + AllocGlobal>(rt: &R) -> Result<Vec<String>, AllocError> {

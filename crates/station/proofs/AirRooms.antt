@@ -1,15 +1,18 @@
 -- How many bits a transmission has, by the cells of its pages, and how many cells the pages of a TAP session take and how much is said in it.
-use Rattle.std.proofs.Common.{length-take, take, ◌∙◌, ◌≡◌, ℕ, ◌+◌, ◌*◌, ◌/◌, ◌≤◌, Bool, true, false, cond, not, nat_lt, List, [], ◌∷◌, ◌++◌, length, length-append, map, Option, Some, None, refl, sym, ap, subst, arith}
+use Rattle.std.proofs.Common.{suc, length-take, take, ◌∙◌, ◌≡◌, ℕ, ◌+◌, ◌*◌, ◌/◌, ◌≤◌, Bool, true, false, cond, not, nat_lt, List, [], ◌∷◌, ◌++◌, length, length-append, map, Option, Some, None, refl, sym, ap, subst, arith}
 use Rattle.std.proofs.lemmas.Bool.{ltb-false}
 use Rattle.std.proofs.lemmas.List.{length-map}
+use Rattle.std.proofs.Math.Nat.{mul-suc}
+use Rattle.codeword.specs.declared.functions.Function.{Function}
 use Rattle.std.proofs.lemmas.List.Sums.{sum_by-cons}
-use Rattle.std.specs.List.{cons_option, sum_by}
+use Rattle.std.specs.List.{sum_by}
 use Rattle.air.specs.Air.{IsAir, transmission}
 use Rattle.bits.proofs.Lengths.{length-words_bits}
 use Rattle.page_pool.specs.Cells.{cells_for, cells_of}
+use Rattle.page_pool.specs.Gains.{cells_of_all, pages_to}
+use Rattle.page_pool.specs.Pool.{page}
 use Rattle.page_text.specs.Page.{Page}
-use Rattle.subscribers.specs.Parts.{Parts}
-use Rattle.subscribers.specs.declared.subscriber.Subscriber.{Subscriber}
+use Rattle.subscribers.specs.Parts.{Parts, Target}
 use Rattle.tap_block.specs.Fields.{content_parts}
 use Rattle.tap_block.specs.Reading.{BeforeLogon, Entry, empty_line, logon, wrong_line, a_block, a_bye, items_of}
 use Rattle.tap_block.specs.declared.ends.End.{End}
@@ -19,7 +22,7 @@ use Rattle.tap_block.specs.Chars.{characters}
 use Rattle.tap_terminal.specs.Replies.{replies}
 use Rattle.both_ends.proofs.JoinedLimit.{closing_one, items_few, replies_short, told_few}
 use Rattle.subscribers.specs.Directory.{Directory, directory_of}
-use Rattle.tap_terminal.specs.Session.{answers_of, closing, Course, Decided, Session, ItemDecided, cells_for_page, decide, is_end, pages_of, start, tell}
+use Rattle.tap_terminal.specs.Session.{answers_of, closing, Course, Decided, Session, ItemDecided, decide, is_end, pages_of, start, tell}
 use Rattle.page_text.specs.FitTest.{fits}
 use Rattle.tap_terminal.specs.Verdict.{Verdict, by_end, fields_for, refused, room_for, text_for, values_of, verdict}
 use Rattle.tap_terminal.specs.declared.terminal.TheConstants.{LONGEST_CONTENT}
@@ -39,53 +42,64 @@ air_few (page ∷ pages) bits spare h le =
 
 -- ---- the cells of a session's pages
 
-abbrev IsWithin : ℕ → Option Page → Type 0
-IsWithin spare o = cells_for_page o ≤ spare
+abbrev IsWithin : ℕ → List Page → Type 0
+IsWithin spare pages = cells_of_all pages ≤ spare
 
-within-cond : (b : Bool) (spare : ℕ) (v w : Verdict) → IsWithin spare v.page → IsWithin spare w.page → IsWithin spare (cond b v w).page
+within-cond : (b : Bool) (spare : ℕ) (v w : Verdict) → IsWithin spare v.pages → IsWithin spare w.pages → IsWithin spare (cond b v w).pages
 within-cond true spare v w h k = h
 within-cond false spare v w h k = k
 
-within-room_for : (s : Subscriber) (text : List ℕ) (spare : ℕ) → IsWithin spare (room_for s text spare).page
-within-room_for s text spare = by_test (nat_lt spare (cells_for (length text))) refl
-  where
-    by_test : (b : Bool) → nat_lt spare (cells_for (length text)) ≡ b → IsWithin spare (cond b (refused Room) (record { answer = Ack; joined = []; page = Some (record { capcode = s.capcode; function = s.function; text = text }) })).page
-    by_test true e = omega arith
-    by_test false e = ltb-false spare (cells_for (length text)) e
+-- a page to each capcode takes as many cells
+cells-pages_to : (capcodes : List ℕ) (function : Function) (text : List ℕ) → cells_of_all (pages_to capcodes function text) ≡ cells_for (length text) * length capcodes
+cells-pages_to [] function text = omega arith
+cells-pages_to (c ∷ cs) function text =
+    let more = cells-pages_to cs function text in
+    let one : cells_for (length text) * suc (length cs) ≡ cells_for (length text) * length cs + cells_for (length text) = mul-suc (cells_for (length text)) (length cs) in
+    omega (arith, more, one)
 
-within-text_for : (o : Option Subscriber) (text : List ℕ) (spare : ℕ) → IsWithin spare (text_for o text spare).page
+within-room_for : (t : Target) (text : List ℕ) (spare : ℕ) → IsWithin spare (room_for t text spare).pages
+within-room_for t text spare = by_test (nat_lt spare (cells_for (length text) * length t.capcodes)) refl
+  where
+    by_test : (b : Bool) → nat_lt spare (cells_for (length text) * length t.capcodes) ≡ b
+        → IsWithin spare (cond b (refused Room) (record { answer = Ack; joined = []; pages = pages_to t.capcodes t.function text })).pages
+    by_test true e = omega arith
+    by_test false e =
+        let fit = ltb-false spare (cells_for (length text) * length t.capcodes) e in
+        subst (λ (n : ℕ). n ≤ spare) (sym (cells-pages_to t.capcodes t.function text)) fit
+
+within-text_for : (o : Option Target) (text : List ℕ) (spare : ℕ) → IsWithin spare (text_for o text spare).pages
 within-text_for None text spare = omega arith
-within-text_for (Some s) text spare = within-cond (fits s.function text) spare (room_for s text spare) (refused Text) (within-room_for s text spare) (omega arith)
+within-text_for (Some t) text spare = within-cond (fits t.function text) spare (room_for t text spare) (refused Text) (within-room_for t text spare) (omega arith)
 
 module _ (directory : Directory) where
-  within-fields_for : (spare : ℕ) (o : Option (List ℕ × List ℕ)) → IsWithin spare (fields_for directory spare o).page
+  within-fields_for : (spare : ℕ) (o : Option (List ℕ × List ℕ)) → IsWithin spare (fields_for directory spare o).pages
   within-fields_for spare None = omega arith
   within-fields_for spare (Some p) = within-text_for (directory p.0) p.1 spare
 
-  within-by_end : (spare : ℕ) (e : End) (content : List ℕ) → IsWithin spare (by_end directory spare e content).page
+  within-by_end : (spare : ℕ) (e : End) (content : List ℕ) → IsWithin spare (by_end directory spare e content).pages
   within-by_end spare Etx content = within-fields_for spare (values_of (content_parts content))
   within-by_end spare Etb content = omega arith
   within-by_end spare Us content = omega arith
 
-  within-verdict : (spare : ℕ) (joined body : List ℕ) (e : End) (right : Bool) → IsWithin spare (verdict directory spare joined body e right).page
+  within-verdict : (spare : ℕ) (joined body : List ℕ) (e : End) (right : Bool) → IsWithin spare (verdict directory spare joined body e right).pages
   within-verdict spare joined body e right =
       let three : Verdict = by_end directory spare e (joined ++ body) in
       let two : Verdict = cond (nat_lt LONGEST_CONTENT (length joined + length body)) (refused Content) three in
       let one : Verdict = cond (nat_lt 250 (length body)) (refused Body) two in
-      within-cond (not right) spare (record { answer = Nak; joined = joined; page = None }) one (omega arith)
+      within-cond (not right) spare (record { answer = Nak; joined = joined; pages = [] }) one (omega arith)
       (within-cond (nat_lt 250 (length body)) spare (refused Body) two (omega arith)
       (within-cond (nat_lt LONGEST_CONTENT (length joined + length body)) spare (refused Content) three (omega arith) (within-by_end spare e (joined ++ body))))
 
-  within-decide : (s : Course) (e : Entry) → cells_for_page (decide directory s e).told.page + (decide directory s e).course.spare ≤ s.spare
+  within-decide : (s : Course) (e : Entry) → cells_of_all (decide directory s e).told.pages + (decide directory s e).course.spare ≤ s.spare
   within-decide s empty_line = omega arith
   within-decide s logon = omega arith
   within-decide s wrong_line = omega arith
   within-decide s (a_block body e right) = let h = within-verdict s.spare s.joined body e right in omega (arith, h)
   within-decide s a_bye = omega arith
 
-  cells-cons_option : (o : Option Page) (pages : List Page) → sum_by cells_of (cons_option o pages) ≡ cells_for_page o + sum_by cells_of pages
-  cells-cons_option None pages = omega arith
-  cells-cons_option (Some page) pages = sum_by-cons cells_of page pages
+  cells-all : (own pages : List Page) → sum_by cells_of (own ++ pages) ≡ cells_of_all own + sum_by cells_of pages
+  cells-all [] pages = omega arith
+  cells-all (p ∷ own) pages = omega (arith, sum_by-cons cells_of p (own ++ pages), cells-all own pages)
 
   cells-cond : (b : Bool) (told : List ItemDecided) (n : ℕ) → sum_by cells_of (pages_of told) ≤ n → sum_by cells_of (pages_of (cond b [] told)) ≤ n
   cells-cond true told n h = omega arith
@@ -98,7 +112,7 @@ module _ (directory : Directory) where
       let later : List ItemDecided = tell directory d.course es in
       let rest = cells-cond (is_end d.told.answer) later d.course.spare (cells-tell d.course es) in
       let w = within-decide s e in
-      omega (arith, cells-cons_option d.told.page (pages_of (cond (is_end d.told.answer) [] later)), rest, w)
+      omega (arith, cells-all d.told.pages (pages_of (cond (is_end d.told.answer) [] later)), rest, w)
 
 -- the pages of a session take no more cells than were spare
 pub pages_within : (settings : Parts) (spare : ℕ) (bytes : List ℕ) (session : Session) → SessionOf settings spare bytes session → sum_by cells_of session.pages ≤ spare

@@ -3,33 +3,31 @@ use Rattle.std.proofs.Common.{◌≡◌, ℕ, List, [], ◌∷◌, ◌++◌, Opt
 use Rattle.std.proofs.lemmas.List.Elements.{All-nil, All-cons}
 use Rattle.std.specs.Prelude.{All}
 use Rattle.page_text.specs.Page.{Page as Accepted, IsAcceptable}
-use Rattle.subscribers.specs.Parts.{Parts}
+use Rattle.subscribers.specs.Parts.{Parts, Target}
 use Rattle.subscribers.specs.Settings.{settings_of}
-use Rattle.subscribers.specs.declared.subscriber.Subscriber.{Subscriber}
 use Rattle.subscribers.specs.Directory.{Directory, directory_of}
 use Rattle.tap_entry.specs.Client.{PageToSend}
 use Rattle.serving.specs.Protocols.{tap}
 use Rattle.station.proofs.ProtocolSessions.{are_acceptable}
 use Rattle.both_ends.proofs.BothEnds.{both_ends}
 use Rattle.near.proofs.NearAir.{near_air}
-use Rattle.station.specs.Delivered.{Call, Delivered, accepted_by, page_for, pages_for, sent_by}
-use Rattle.both_ends.specs.Joined.{AreFor, sent_of}
+use Rattle.station.specs.Delivered.{Call, Delivered, accepted_by, pages_for, pages_of_target, sent_by}
+use Rattle.both_ends.specs.Joined.{AreForAll, sent_of}
 use Rattle.near.specs.NearAir.{joined}
 use Rattle.receiver.specs.Shown.{pages_in, pages_of_frame}
 
--- pages that are those of a client's are the client's as pages of their subscribers
-AreFor-pages_for : (directory : Directory) (pages : List PageToSend) (accepted : List Accepted) → AreFor directory pages accepted → accepted ≡ pages_for directory pages
-AreFor-pages_for directory [] [] h = refl
-AreFor-pages_for directory [] (a ∷ accepted) h = elim h [ ]
-AreFor-pages_for directory (p ∷ pages) [] h = elim h [ ]
-AreFor-pages_for directory (p ∷ pages) (a ∷ accepted) h =
-    ap₂ (λ (x : Accepted) (xs : List Accepted). x ∷ xs) h.0.2 (AreFor-pages_for directory pages accepted h.1)
-    ∙ sym (ap (λ (o : Option Subscriber). page_for o p.text ++ pages_for directory pages) h.0.1)
+-- pages that are those of a client's are the client's, as pages to the capcodes of their ids
+AreForAll-pages_for : (directory : Directory) (pages : List PageToSend) (accepted : List Accepted) → AreForAll directory pages accepted → accepted ≡ pages_for directory pages
+AreForAll-pages_for directory [] accepted h = h
+AreForAll-pages_for directory (p ∷ pages) accepted (own, others, cut, are, rest) =
+    cut
+    ∙ ap₂ (λ (x y : List Accepted). x ++ y) are.pages_are (AreForAll-pages_for directory pages others rest)
+    ∙ sym (ap (λ (o : Option Target). pages_of_target o p.text ++ pages_for directory pages) are.known)
 
 -- what a call accepted is what its client marks Sent
 accepted-sent : {settings : Parts} {spare : ℕ} (call : Call settings spare) → call.session.pages ≡ pages_for (directory_of settings) (sent_of call.pages call.outcomes)
 accepted-sent {settings = settings} {spare = spare} call =
-    AreFor-pages_for (directory_of settings) (sent_of call.pages call.outcomes) call.session.pages
+    AreForAll-pages_for (directory_of settings) (sent_of call.pages call.outcomes) call.session.pages
     (both_ends call.password settings.password (directory_of settings) spare call.pages call.replied call.said call.marks call.outcomes call.session
     call.are_pages call.is_password call.marks_are call.client call.session_is call.replies_are)
 

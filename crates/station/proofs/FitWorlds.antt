@@ -28,10 +28,10 @@ use Rattle.station.specs.declared.outcomes.Outcome.TheVariants.{Ended, Misread, 
 use Rattle.endings.specs.declared.statuses.Status.{Status}
 use Rattle.endings.specs.declared.statuses.Status.TheVariants.{Done, Usage, Settings, FileFault, WireFault, OutFault, InputFault, NotBlock, BadSum, BadText, TooLong, LogonRefused, SomeUnsent, Memory, BadPages}
 use Rattle.station.specs.AirRoom.{most_air, most_said}
-use Rattle.station.specs.AlphaPage.{alpha_page}
-use Rattle.station.specs.Commands.{Command, Load, One, Play, PlayLine, Send, Show, Snpp, Station, Trial, Twice, WriteLine}
+use Rattle.one_block.specs.AlphaPage.{alpha_page}
+use Rattle.command_lines.specs.Commands.{Command, Load, One, Play, PlayLine, Send, Show, Snpp, Station, Trial, Twice, WriteLine}
 use Rattle.station.specs.FitWorlds.{roomy_connection, AreSteady, FitErrWithRoom, FitInMemory, FitWithRoom, HasFiles, longest_line_about, world, roomy}
-use Rattle.station.specs.LoneBlock.{HasText}
+use Rattle.one_block.specs.LoneBlock.{HasText}
 use Rattle.station.specs.OneOutcome.{bits_listened}
 use Rattle.station.specs.OneSend.{FitSend}
 use Rattle.station.specs.OneStation.{FitStation}

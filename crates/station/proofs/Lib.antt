@@ -1,14 +1,3 @@
-pub mod CommandLines
-pub mod Fronts
-pub mod LoneBlocks
-pub mod OneAnswer
-pub mod OnePages
-pub mod ReadTexts
-pub mod Sendings
-pub mod Saying
-pub mod ListedCapcodes
-pub mod ListedReceivers
-pub mod Pairs
 pub mod FewCells
 pub mod FilesRead
 pub mod SettingsRead
@@ -23,7 +12,6 @@ pub mod Told
 pub mod OneOutcomes
 pub mod OneLines
 pub mod OneLoads
-pub mod OneBytes
 pub mod OneOfOne
 pub mod OneServings
 pub mod OneStations
@@ -33,7 +21,6 @@ pub mod AirRooms
 pub mod ProtocolSessions
 pub mod FitRooms
 pub mod CallRooms
-pub mod OneCommands
 pub mod OneRuns
 pub mod EntryNumbers
 pub mod FitWorlds

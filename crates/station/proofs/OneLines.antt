@@ -5,9 +5,9 @@ use Rattle.endings.specs.declared.statuses.Status.{Status}
 use Rattle.endings.specs.declared.statuses.Status.TheVariants.{Done, FileFault, Memory, TooLong}
 use Rattle.line_writer.specs.LineFile.{LineFault, OthersStand, WritesLine}
 use Rattle.station.specs.OneOutcome.{FitWriteLine, OneWriteLine}
-use Rattle.station.specs.Rows.{Streams}
+use Rattle.one_block.specs.OneRow.{Streams}
 use Rattle.station.proofs.LeftAlike.{same_or_other, same_said}
-use Rattle.station.proofs.OneBytes.{one_bytes}
+use Rattle.endings.proofs.OneBytes.{one_bytes}
 
 -- no call of a fit shelf fails
 no_fault : {B : Type 0} (air line : List ℕ) (seed : ℕ) (old new : Files) → FitWriteLine air line old → LineFault air line seed old new → B

@@ -10,14 +10,14 @@ use Rattle.wires.specs.Left.{Left}
 use Rattle.wires.specs.Written.{Written}
 use Rattle.endings.specs.declared.statuses.Status.{Status}
 use Rattle.endings.specs.declared.statuses.Status.TheVariants.{BadSum, BadText, Done, InputFault, Memory, NotBlock, OutFault}
-use Rattle.station.specs.AlphaPage.{alpha_page}
-use Rattle.station.specs.LoneBlock.{HasText}
+use Rattle.one_block.specs.AlphaPage.{alpha_page}
+use Rattle.one_block.specs.LoneBlock.{HasText}
 use Rattle.station.specs.OneOutcome.{FitOne, OneOne}
-use Rattle.station.specs.Rows.{OneRow, PageSent, ReadBadText, ReadBlock, ReadNoBlock, Streams}
+use Rattle.one_block.specs.OneRow.{OneRow, PageSent, ReadBadText, ReadBlock, ReadNoBlock, Streams}
 use Rattle.station.proofs.LeftAlike.{kept_alike, same_said}
 use Rattle.air.proofs.OneAir.{one_air}
-use Rattle.station.proofs.OneBytes.{one_bytes, still_bytes}
-use Rattle.station.proofs.OneAnswer.{one_block, one_text}
+use Rattle.endings.proofs.OneBytes.{one_bytes, still_bytes}
+use Rattle.one_block.proofs.OneAnswer.{one_block, one_text}
 
 -- two readings of a block
 same_block : (old new other : Left ℕ) (body body2 : List ℕ) (right marked : Bool) → IsTrue old.tells → ReadBlock old new body right → ReadBlock old other body2 marked → (body2 ≡ body) × (marked ≡ right)

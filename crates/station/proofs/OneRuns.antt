@@ -7,7 +7,7 @@ use Rattle.station.specs.declared.outcomes.Outcome.{Outcome}
 use Rattle.station.specs.declared.outcomes.Outcome.TheVariants.{Ended, Misread, Refused}
 use Rattle.endings.specs.declared.statuses.Status.{Status}
 use Rattle.endings.specs.declared.statuses.Status.TheVariants.{BadPages, Done, Memory, OutFault, Settings}
-use Rattle.station.specs.Commands.{Command, Load, One, Play, PlayLine, Send, Show, Snpp, Station, Trial, Twice, WriteLine}
+use Rattle.command_lines.specs.Commands.{Command, Load, One, Play, PlayLine, Send, Show, Snpp, Station, Trial, Twice, WriteLine}
 use Rattle.serving.specs.Protocols.{snpp, tap}
 use Rattle.station.specs.OneRun.{FitRun, OneRun}
 use Rattle.station.specs.Outcomes.{Tells, TellsMisread, TellsOutcome, TellsRefusal, line_about, pages_line, settings_line}
@@ -17,7 +17,7 @@ use Rattle.station.specs.OneOutcome.{LeftAlike}
 use Rattle.station.proofs.LeftAlike.{kept_alike}
 use Rattle.endings.specs.Wrote.{FitFor}
 use Rattle.serving.specs.Sent.{once, twice}
-use Rattle.station.proofs.OneCommands.{one_command}
+use Rattle.command_lines.proofs.OneCommands.{one_command}
 use Rattle.station.proofs.OneOfOne.{one_one}
 use Rattle.station.proofs.OneLoads.{one_load}
 use Rattle.station.proofs.OneOutcomes.{one_play, one_play_line, one_show}

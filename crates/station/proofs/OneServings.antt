@@ -14,7 +14,7 @@ use Rattle.serving.specs.Served.{AllFrom, FitWire, IsWhole, Served, airs, line_f
 use Rattle.serving.specs.Serving.{Around, AtDone}
 use Rattle.serving.proofs.InTurn.{wire_after}
 use Rattle.air.proofs.OneAir.{one_air}
-use Rattle.station.proofs.OneBytes.{one_bytes}
+use Rattle.endings.proofs.OneBytes.{one_bytes}
 use Rattle.serving.proofs.WholeSessions.{turn-well}
 use Rattle.station.proofs.ProtocolSessions.{one_in}
 

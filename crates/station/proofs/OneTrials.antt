@@ -20,7 +20,7 @@ use Rattle.station.specs.declared.outcomes.Outcome.TheVariants.{Ended, Misread, 
 use Rattle.endings.specs.declared.statuses.Status.{Status}
 use Rattle.endings.specs.declared.statuses.Status.TheVariants.{Done, FileFault, InputFault, Memory, OutFault}
 use Rattle.station.specs.OneTrial.{FitTrial, OneTrial}
-use Rattle.station.specs.Rows.{Streams}
+use Rattle.one_block.specs.OneRow.{Streams}
 use Rattle.serving.specs.Sent.{IsSent, Times}
 use Rattle.serving.specs.TapSessions.{SessionOf}
 use Rattle.station.specs.StationRows.{TrialRow, TriedBy, lines_by}

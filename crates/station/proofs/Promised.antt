@@ -27,7 +27,7 @@ use Rattle.sampler.proofs.Line.{line_back}
 use Rattle.station.proofs.ProtocolSessions.{are_acceptable, one_in, queued_at_sends}
 use Rattle.station.proofs.AirRooms.{pages_within}
 use Rattle.station.proofs.FewCells.{few_cells}
-use Rattle.station.proofs.Pairs.{has-listed}
+use Rattle.command_lines.proofs.Pairs.{has-listed}
 use Rattle.near.proofs.NearAir.{near_air}
 use Rattle.page_pool.specs.Cells.{cells_of}
 use Rattle.repeats.specs.Kept.{NearOrNone, kept_pages}
@@ -39,7 +39,7 @@ use Rattle.serving.proofs.WholeSessions.{turn-wholes}
 use Rattle.station.specs.declared.outcomes.Outcome.{Outcome}
 use Rattle.station.specs.declared.outcomes.Outcome.TheVariants.{Ended, Misread, Refused}
 use Rattle.endings.specs.declared.statuses.Status.TheVariants.{Done, FileFault, OutFault, Usage, WireFault}
-use Rattle.station.specs.Commands.{AreCommand, Command, IsCapcodeWord, IsReceiverWord, Load, One, Play, PlayLine, Say, Send, Show, Snpp, Station, Trial, Twice, WriteLine, plus_parts}
+use Rattle.command_lines.specs.Commands.{AreCommand, Command, IsCapcodeWord, IsReceiverWord, Load, One, Play, PlayLine, Say, Send, Show, Snpp, Station, Trial, Twice, WriteLine, plus_parts}
 use Rattle.near.specs.NearAir.{AreUsable}
 use Rattle.station.specs.Promises.{AcceptedWhileFit, AreAccepted, FaultPromise, FilePromise, HearLists, HearNear, HearNearLine, HearsTrial, QueuedAtSends, ServedSend, HearsTwice, StationPromise, TrialPromise, TwicePromise, accepted_in}
 use Rattle.station.specs.ReadFile.{ReadSettings, Unreadable}
@@ -207,7 +207,7 @@ accepted_while {p} {settings} {spare} first now sessions more h t st n fit =
     (accepted_from first now first.opened (take n sessions) whole)
 
 -- each SEND that was answered 250 queued a page
-all_queued : {p : Protocol} {settings : Parts} {spare : ℕ} (sessions : List (Served p settings spare)) → AllByRecursion (λ (s : Served p settings spare). QueuedAtSends p s.ran.fed s.ran.session) sessions
+all_queued : {p : Protocol} {settings : Parts} {spare : ℕ} (sessions : List (Served p settings spare)) → AllByRecursion (λ (s : Served p settings spare). QueuedAtSends p settings s.ran.fed s.ran.session) sessions
 all_queued [] = tt
 all_queued {p} {settings} {spare} (s ∷ sessions) = (queued_at_sends p settings spare s.ran.fed s.ran.session s.ran.session_is, all_queued sessions)
 

@@ -14,7 +14,7 @@ use Rattle.snpp_entry.proofs.Sends.{at_line, pages_at_sends}
 use Rattle.snpp_entry.specs.Lines.{cut, without_cr}
 use Rattle.snpp_entry.specs.Replies.{snpp_replies, the_greeting}
 use Rattle.snpp_entry.specs.Rows.{Outcome, Pending, outcome}
-use Rattle.snpp_entry.specs.Sends.{sends_taken, session_lines}
+use Rattle.snpp_entry.specs.Sends.{ArePagesOfSends, session_lines}
 use Rattle.snpp_entry.specs.Session.{SnppCourse, SnppSession, course_after, is_bye, outcome_of_piece, outcome_pages, session, snpp_start, snpp_tell}
 use Rattle.subscribers.specs.Directory.{Directory, directory_of}
 use Rattle.subscribers.specs.Parts.{Parts}
@@ -25,9 +25,9 @@ use Rattle.serving.specs.Protocols.{IsSessionIn, Protocol, SessionIn, queued_in,
 use Rattle.station.specs.AcceptedPages.{AreAcceptable}
 use Rattle.station.specs.AirRoom.{most_spoken}
 use Rattle.station.specs.Promises.{QueuedAtSends}
-use Rattle.station.proofs.AcceptablePages.{All-pages}
+use Rattle.station.proofs.AcceptablePages.{All-pages, All-pages_to}
 use Rattle.station.proofs.AirRooms.{pages_within, replies_few}
-use Rattle.station.proofs.UsableSettings.{GivesUsable, IsUsable-from_settings_of}
+use Rattle.station.proofs.UsableSettings.{GivesUsable, GivesUsable-settings_of}
 
 -- bytes have one session
 pub one_in : (p : Protocol) (settings : Parts) (spare : ℕ) (bytes : List ℕ) (a b : SessionIn p) → IsSessionIn p settings spare bytes a → IsSessionIn p settings spare bytes b → a ≡ b
@@ -58,8 +58,7 @@ module _ (directory : Directory) (usable : GivesUsable directory) where
   line_acceptable : (spare : ℕ) (p : Pending) (line : List ℕ) → All IsAcceptable (outcome directory spare p line).pages
   line_acceptable spare p line = elim (at_line directory spare p line) [
     | inl h ↦ subst (λ (pages : List Page). All IsAcceptable pages) (sym h.pages_are)
-        (All-cons IsAcceptable (record { capcode = h.subscriber.capcode; function = h.subscriber.function; text = h.text }) []
-        (record { usable = usable h.id h.subscriber h.known; fits = fits_from_test h.subscriber.function h.text h.suits }) (All-nil IsAcceptable))
+        (All-pages_to h.target h.text (usable h.id h.target h.known) (fits_from_test h.target.function h.text h.suits))
     | inr h ↦ subst (λ (pages : List Page). All IsAcceptable pages) (sym h.none) (All-nil IsAcceptable)
   ]
 
@@ -77,14 +76,14 @@ module _ (directory : Directory) (usable : GivesUsable directory) where
 
 -- each page that a session accepts under the settings of a file is acceptable
 pub are_acceptable : AreAcceptable
-are_acceptable tap bytes parts spare taken session h k = All-pages parts spare taken session (IsUsable-from_settings_of bytes parts h) k
+are_acceptable tap bytes parts spare taken session h k = All-pages parts spare taken session (GivesUsable-settings_of bytes parts h) k
 are_acceptable snpp bytes parts spare taken session h k =
     subst (λ (s : SnppSession). All IsAcceptable s.pages) (sym k)
-    (told_acceptable (directory_of parts) (IsUsable-from_settings_of bytes parts h) (snpp_start spare) (cut (take 999999 (map char_of taken))).pieces)
+    (told_acceptable (directory_of parts) (GivesUsable-settings_of bytes parts h) (snpp_start spare) (cut (take 999999 (map char_of taken))).pieces)
 
 -- ---- the lines that queue pages
 
-pub queued_at_sends : (p : Protocol) (settings : Parts) (spare : ℕ) (bytes : List ℕ) (session : SessionIn p) → IsSessionIn p settings spare bytes session → QueuedAtSends p bytes session
+pub queued_at_sends : (p : Protocol) (settings : Parts) (spare : ℕ) (bytes : List ℕ) (session : SessionIn p) → IsSessionIn p settings spare bytes session → QueuedAtSends p settings bytes session
 queued_at_sends tap settings spare bytes session h = tt
 queued_at_sends snpp settings spare bytes session h =
-    subst (λ (s : SnppSession). length s.pages ≡ sends_taken (session_lines (map char_of bytes)) s.answers) (sym h) (pages_at_sends (directory_of settings) spare (map char_of bytes))
+    subst (λ (s : SnppSession). ArePagesOfSends (directory_of settings) (session_lines (map char_of bytes)) s.answers s.pages) (sym h) (pages_at_sends (directory_of settings) spare (map char_of bytes))

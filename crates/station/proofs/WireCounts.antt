@@ -13,7 +13,7 @@ use Rattle.wires.specs.Line.{Line}
 use Rattle.wires.specs.Written.{Written}
 use Rattle.calling.specs.Calls.{CallsUp, SendsSo}
 use Rattle.station.specs.SendRows.{SendRow}
-use Rattle.station.specs.Commands.{Command, Load, One, Play, PlayLine, Send, Show, Snpp, Station, Trial, Twice, WriteLine}
+use Rattle.command_lines.specs.Commands.{Command, Load, One, Play, PlayLine, Send, Show, Snpp, Station, Trial, Twice, WriteLine}
 use Rattle.station.specs.Rows.{Acts, HasEndedSo, Objects, Outside, Runs}
 use Rattle.serving.specs.Protocols.{Protocol, snpp, tap}
 use Rattle.serving.specs.Serving.{Around, HasServed}

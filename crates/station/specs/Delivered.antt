@@ -5,9 +5,9 @@ use Rattle.page_text.specs.Page.{Page as Accepted}
 use Rattle.air.specs.Near.{Near}
 use Rattle.receiver.specs.Heard.{with_text, heard}
 use Rattle.receiver.specs.Shown.{pages_in, pages_of_frame}
-use Rattle.subscribers.specs.Parts.{Parts}
+use Rattle.page_pool.specs.Gains.{pages_to}
+use Rattle.subscribers.specs.Parts.{Parts, Target}
 use Rattle.subscribers.specs.Settings.{settings_of}
-use Rattle.subscribers.specs.declared.subscriber.Subscriber.{Subscriber}
 use Rattle.tap_terminal.specs.Replies.{replies}
 use Rattle.tap_terminal.specs.Session.{Session}
 use Rattle.subscribers.specs.Directory.{Directory, directory_of}
@@ -37,14 +37,14 @@ pub record Call (settings : Parts) (spare : ℕ) : Type 0 where
   pub session_is : SessionOf settings spare said session
   pub replies_are : replied ≡ replies session.answers
 
--- the page of a subscriber, and none where there is none
-abbrev pub page_for : Option Subscriber → List ℕ → List Accepted
-page_for None text = []
-page_for (Some s) text = record { capcode = s.capcode; function = s.function; text = text } ∷ []
+-- a page for each capcode of what an id stands for, and none where it stands for nothing
+abbrev pub pages_of_target : Option Target → List ℕ → List Accepted
+pages_of_target None text = []
+pages_of_target (Some t) text = pages_to t.capcodes t.function text
 
--- the pages of a client, each as one of its id's subscriber
+-- the pages of a client, each as one page for each capcode of its id
 abbrev pub pages_for : Directory → List PageToSend → List Accepted
-pages_for directory pages = flat_map (λ page. page_for (directory page.id) page.text) pages
+pages_for directory pages = flat_map (λ page. pages_of_target (directory page.id) page.text) pages
 
 -- the pages that the sessions of calls accepted, session by session
 abbrev pub accepted_by : {settings : Parts} {spare : ℕ} → List (Call settings spare) → List (List Accepted)

@@ -7,9 +7,10 @@ use Rattle.wires.specs.Left.{Left}
 use Rattle.wires.specs.Line.{Line}
 use Rattle.wires.specs.Stacked.{are_bytes}
 use Rattle.wires.specs.Written.{Written}
-use Rattle.station.specs.Commands.{Command, Load, One, Play, PlayLine, Send, Show, Snpp, Station, Trial, Twice, WriteLine}
+use Rattle.command_lines.specs.Commands.{Command, Load, One, Play, PlayLine, Send, Show, Snpp, Station, Trial, Twice, WriteLine}
 use Rattle.station.specs.OneRun.{FitErr, FitRun}
-use Rattle.station.specs.Rows.{Objects, Outside, Streams}
+use Rattle.station.specs.Rows.{Objects, Outside}
+use Rattle.one_block.specs.OneRow.{Streams}
 
 -- The objects tell what they hold, and are steady. The output holds bytes.
 pub record AreSteady (old : Objects) : Type 0 where

@@ -1,12 +1,5 @@
-pub mod AlphaPage
-pub mod Commands
-pub mod Input
-pub mod LoneBlock
-pub mod Meant
 pub mod ReadFile
 pub mod Rows
-pub mod Sends
-pub mod Silent
 pub mod StationRows
 pub mod Outcomes
 pub mod Promises
@@ -20,5 +13,3 @@ pub mod OneSend
 pub mod AirRoom
 pub mod OneRun
 pub mod FitWorlds
-pub mod Pairs
-pub mod ReadWords

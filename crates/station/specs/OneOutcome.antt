@@ -9,14 +9,15 @@ use Rattle.wires.specs.Stacked.{are_bytes}
 use Rattle.line_writer.specs.LineFile.{CanBeFresh}
 use Rattle.endings.specs.declared.statuses.Status.{Status}
 use Rattle.endings.specs.declared.statuses.Status.TheVariants.{Memory}
-use Rattle.station.specs.AlphaPage.{alpha_page}
+use Rattle.one_block.specs.AlphaPage.{alpha_page}
 use Rattle.listening.specs.Listening.{most_bits}
-use Rattle.station.specs.LoneBlock.{HasText, IsMarkedBlock}
+use Rattle.one_block.specs.LoneBlock.{HasText, IsMarkedBlock}
 use Rattle.listening.specs.PageLines.{play_lines}
 use Rattle.load.specs.Loads.{IsLoad}
 use Rattle.load.specs.Report.{load_lines}
 use Rattle.load.specs.declared.report.Report.{Report}
-use Rattle.station.specs.Rows.{Objects, RunsLoad, RunsOne, RunsPlay, RunsPlayLine, RunsShow, RunsWriteLine, Streams}
+use Rattle.station.specs.Rows.{Objects, RunsLoad, RunsOne, RunsPlay, RunsPlayLine, RunsShow, RunsWriteLine}
+use Rattle.one_block.specs.OneRow.{Streams}
 use Rattle.listening.specs.Table.{table_of}
 use Rattle.endings.specs.Wrote.{FitFor}
 use Rattle.wires.specs.Written.{Written}

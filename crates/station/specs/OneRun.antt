@@ -4,7 +4,7 @@ use Rattle.station.specs.declared.outcomes.Outcome.{Outcome}
 use Rattle.sampler.specs.Runs.{sampled_bits}
 use Rattle.endings.specs.declared.statuses.Status.{Status}
 use Rattle.endings.specs.declared.statuses.Status.TheVariants.{Memory}
-use Rattle.station.specs.Commands.{AreCommand, Command, Load, One, Play, PlayLine, Send, Show, Snpp, Station, Trial, Twice, WriteLine}
+use Rattle.command_lines.specs.Commands.{AreCommand, Command, Load, One, Play, PlayLine, Send, Show, Snpp, Station, Trial, Twice, WriteLine}
 use Rattle.station.specs.OneOutcome.{FitFile, FitLoad, FitOne, FitWriteLine, LeftAlike, bits_listened}
 use Rattle.station.specs.OneSend.{FitSend}
 use Rattle.station.specs.OneStation.{FitStation}

@@ -10,7 +10,8 @@ use Rattle.station.specs.declared.outcomes.Outcome.{Outcome}
 use Rattle.station.specs.declared.outcomes.Outcome.TheVariants.{Ended}
 use Rattle.endings.specs.declared.statuses.Status.TheVariants.{Memory}
 use Rattle.station.specs.OneOutcome.{LeftAlike}
-use Rattle.station.specs.Rows.{Objects, RunsTrial, Streams}
+use Rattle.station.specs.Rows.{Objects, RunsTrial}
+use Rattle.one_block.specs.OneRow.{Streams}
 use Rattle.serving.specs.Sent.{IsSent, Times}
 use Rattle.serving.specs.TapSessions.{SessionOf}
 use Rattle.station.specs.StationRows.{lines_by}

@@ -12,10 +12,11 @@ use Rattle.endings.specs.declared.statuses.Status.TheVariants.{BadPages, Done, O
 use Rattle.endings.specs.Statuses.{status_line}
 use Rattle.endings.specs.Wrote.{FitFor, StaysWell, Wrote, WroteFront}
 
--- what is said of a settings file that is refused. The numbers count entries from 1
+-- what is said of a settings file that is refused. The numbers count subscribers, or groups, from 1
 abbrev pub fault_text : SettingsFault → List ℕ
 fault_text Fault.Long = codes "too long"
 fault_text Fault.NotToml = codes "not toml"
+fault_text Fault.Version = codes "version"
 fault_text Fault.Form = codes "form"
 fault_text Fault.Password = codes "password"
 fault_text Fault.Cells = codes "cells"
@@ -24,6 +25,10 @@ fault_text (Fault.Id n) = codes "id at entry " ++ decimal n
 fault_text (Fault.IdTwice n) = codes "id twice at entry " ++ decimal n
 fault_text (Fault.Capcode n) = codes "capcode at entry " ++ decimal n
 fault_text (Fault.Class n) = codes "class at entry " ++ decimal n
+fault_text (Fault.GroupId n) = codes "id at group " ++ decimal n
+fault_text (Fault.GroupIdTwice n) = codes "id twice at group " ++ decimal n
+fault_text (Fault.GroupMembers n) = codes "members at group " ++ decimal n
+fault_text (Fault.GroupClass n) = codes "class at group " ++ decimal n
 fault_text Fault.Memory = codes "memory"
 
 -- the line about a settings file that is refused

@@ -11,7 +11,8 @@ use Rattle.receiver.specs.Receivers.{most_receivers}
 use Rattle.receiver.specs.Shown.{has_of, pages_in, pages_of_frame, shown_by}
 use Rattle.sampler.specs.Line.{IsLine}
 use Rattle.sampler.specs.Runs.{NoneLonger, sampled_bits}
-use Rattle.snpp_entry.specs.Sends.{sends_taken, session_lines}
+use Rattle.snpp_entry.specs.Sends.{ArePagesOfSends, session_lines}
+use Rattle.subscribers.specs.Directory.{directory_of}
 use Rattle.subscribers.specs.Parts.{Parts}
 use Rattle.wires.specs.Files.{Files}
 use Rattle.wires.specs.Left.{Left}
@@ -99,16 +100,17 @@ AreAccepted p settings spare wire k pages = (session : SessionIn p) → IsSessio
 abbrev pub AcceptedWhileFit : Protocol → Parts → ℕ → Line → List (List Page) → Type 0
 AcceptedWhileFit p settings spare wire lists = (n : ℕ) → NextFit p settings spare wire n → AllFrom (AreAccepted p settings spare wire) wire.opened (take n lists)
 
--- A session of SNPP has as many pages as lines of it are a SEND that was answered 250 OK: each such line queues one page, and no other line one.
-abbrev pub QueuedAtSends : (p : Protocol) → List ℕ → SessionIn p → Type 0
-QueuedAtSends tap heard session = Unit {0}
-QueuedAtSends snpp heard session = length session.pages ≡ sends_taken (session_lines (map char_of heard)) session.answers
+-- The pages of a session of SNPP are, for each line of it that is a SEND that was answered 250 OK, in order, one page for each capcode of
+-- the id that was pending, and no other line queues one.
+abbrev pub QueuedAtSends : (p : Protocol) → Parts → List ℕ → SessionIn p → Type 0
+QueuedAtSends tap settings heard session = Unit {0}
+QueuedAtSends snpp settings heard session = ArePagesOfSends (directory_of settings) (session_lines (map char_of heard)) session.answers session.pages
 
 -- Sessions that were served send what they accepted. Over a steady wire, while its connections are fit, that is what the sessions of all
 -- that was to be heard accept.
 pub record ServedSend {p : Protocol} {settings : Parts} {spare : ℕ} (old : Around) (sessions : List (Served p settings spare)) : Type 0 where
   pub sends : IsTrue old.shelf.tells → SendsAccepted (accepted_in sessions) (airs sessions)
-  pub queued : AllByRecursion (λ (s : Served p settings spare). QueuedAtSends p s.ran.fed s.ran.session) sessions
+  pub queued : AllByRecursion (λ (s : Served p settings spare). QueuedAtSends p settings s.ran.fed s.ran.session) sessions
   pub whole : IsTrue old.wire.tells → IsTrue old.wire.steady → AcceptedWhileFit p settings spare old.wire (accepted_in sessions)
 
 -- where an append failed, this holds of the sessions before the last one

@@ -1,26 +1,17 @@
-//! Laws of what `one` reads, of the pages that a session accepts, of the whole way from clients to receivers, of the one outcome that a
-//! run can have, and of the room that it takes.
+//! Laws of the pages that a session accepts, of the whole way from clients to receivers, of the one outcome that a run can have, and of
+//! the room that it takes.
 
-ghost use Rattle.std.specs.Prelude.{◌≡◌, ℕ, Bool, List};
 ghost use Rattle.station.specs.AcceptedPages.{AreAcceptable};
 ghost use Rattle.station.specs.AirRoom.{AirsFit, CallFits, ShelfFits, WireFits};
 ghost use Rattle.station.specs.Delivered.{Delivered};
 ghost use Rattle.station.specs.FitWorlds.{FitErrWithRoom, FitInMemory, FitWithRoom};
 ghost use Rattle.serving.specs.InTurn.{AllInTurn};
 ghost use Rattle.serving.specs.Protocols.{snpp, tap};
-ghost use Rattle.station.specs.LoneBlock.{HasText, IsMarkedBlock};
 ghost use Rattle.station.specs.OneOutcome.{OneLoad, OneOne, OnePlay, OnePlayLine, OneShow, OneWriteLine};
 ghost use Rattle.station.specs.OneRun.{OneRun};
 ghost use Rattle.station.specs.OneSend.{OneSend};
 ghost use Rattle.station.specs.OneStation.{OneStation};
 ghost use Rattle.station.specs.OneTrial.{OneTrial};
-
-/// An input is at most one block, with a right trailer or a wrong one, and a content has at most one text. So the answers of `one`
-/// that speak of its input exclude one another.
-pub fn one_answer()
-    ensures block { (x body other : List ℕ) (right marked : Bool) → IsMarkedBlock x body right → IsMarkedBlock x other marked → (other ≡ body) × (marked ≡ right) }
-    ensures text { (content text other : List ℕ) → HasText content text → HasText content other → other ≡ text }
-{}
 
 /// From clients to receivers: where clients and the terminal of a station hear one another, and the transmissions of what it accepted
 /// are heard with every preamble as it was sent and with at most two wrong bits in every other word, a receiver hears exactly the pages

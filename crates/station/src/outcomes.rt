@@ -118,6 +118,7 @@ fn push_fault(fault: SettingsFault, line: &mut ArrayVec<u8, LINE>)
     match fault {
         SettingsFault::Long => push_all(b"too long", line),
         SettingsFault::NotToml => push_all(b"not toml", line),
+        SettingsFault::Version => push_all(b"version", line),
         SettingsFault::Form => push_all(b"form", line),
         SettingsFault::Password => push_all(b"password", line),
         SettingsFault::Cells => push_all(b"cells", line),
@@ -126,11 +127,15 @@ fn push_fault(fault: SettingsFault, line: &mut ArrayVec<u8, LINE>)
         SettingsFault::IdTwice(entry) => push_entry(b"id twice at entry ", entry, line),
         SettingsFault::Capcode(entry) => push_entry(b"capcode at entry ", entry, line),
         SettingsFault::Class(entry) => push_entry(b"class at entry ", entry, line),
+        SettingsFault::GroupId(group) => push_entry(b"id at group ", group, line),
+        SettingsFault::GroupIdTwice(group) => push_entry(b"id twice at group ", group, line),
+        SettingsFault::GroupMembers(group) => push_entry(b"members at group ", group, line),
+        SettingsFault::GroupClass(group) => push_entry(b"class at group ", group, line),
         SettingsFault::Memory => push_all(b"memory", line),
     }
 }
 
-/// Appends what is wrong at an entry or a line, and its number.
+/// Appends what is wrong at an entry, a group or a line, and its number.
 fn push_entry(what: &[u8], entry: u32, line: &mut ArrayVec<u8, LINE>)
     requires short { length what.now ≤ 18 }
     requires room { array_vec_len line.old + (length what.now + 40) ≤ LINE }

@@ -8,10 +8,10 @@ ghost use Rattle.serving.specs.Sent.{once, twice};
 ghost use Rattle.serving.specs.Protocols.{snpp, tap};
 ghost use Rattle.station.specs.StationRows.{OpensStation, StationRow, TrialRow, TriesFile};
 
-use crate::commands::StationLine;
 use crate::files::read_settings;
 use crate::outcomes::Outcome;
-use crate::receivers::{Receivers, group_of, twin_group_of};
+use command_lines::commands::StationLine;
+use command_lines::receivers::{Receivers, group_of, twin_group_of};
 use endings::statuses::Status;
 use repeats::Recording;
 use serving::sending::{Hearing, SentTwice};

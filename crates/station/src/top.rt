@@ -1,23 +1,23 @@
 //! The top call.
 
 ghost use Rattle.std.specs.Prelude.{◌≡◌};
-ghost use Rattle.station.specs.Commands.{FilesDiffer, texts};
-ghost use Rattle.station.specs.Meant.{meant};
+ghost use Rattle.command_lines.specs.Commands.{FilesDiffer, texts};
+ghost use Rattle.command_lines.specs.Meant.{meant};
 ghost use Rattle.listening.specs.HeardFile.{Plays};
 ghost use Rattle.listening.specs.HeardLine.{PlaysSamples};
 ghost use Rattle.listening.specs.PageLines.{play_lines};
 ghost use Rattle.station.specs.Rows.{Acts, Runs};
 
-use crate::commands::{CommandLine, parse};
-use crate::one_page::one;
 use crate::outcomes::{Outcome, tell_outcome};
 use crate::pages_runs::run_send;
-use crate::receivers::{Receivers, group_of};
 use crate::settings_runs::{run_snpp, run_station, run_trial, run_twice};
+use command_lines::commands::{CommandLine, parse};
+use command_lines::receivers::{Receivers, group_of};
 use endings::statuses::Status;
 use line_writer::write_line;
 use listening::hearing::{play_file, play_samples, show_file};
 use load::running::load;
+use one_block::one_page::one;
 use std::alloc::Global;
 use wires::Memory;
 use wires::shelf::Shelf;

@@ -1,4 +1,4 @@
-use Rattle.station.proofs.CommandLines.{files_differ}
+use Rattle.command_lines.proofs.CommandLines.{files_differ}
 use Rattle.station.proofs.Promised.{promised}
 use Rattle.station.proofs.Told.{told_well}
 use Rattle.station.proofs.top.run.Goals as goal

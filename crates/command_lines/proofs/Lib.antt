@@ -1,0 +1,6 @@
+pub mod CommandLines
+pub mod ListedCapcodes
+pub mod ListedReceivers
+pub mod Saying
+pub mod Pairs
+pub mod OneCommands

@@ -1,0 +1,4 @@
+pub mod Commands
+pub mod Meant
+pub mod ReadWords
+pub mod Pairs

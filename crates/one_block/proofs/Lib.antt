@@ -1,0 +1,6 @@
+pub mod LoneBlocks
+pub mod OnePages
+pub mod ReadTexts
+pub mod Sendings
+pub mod Fronts
+pub mod OneAnswer
