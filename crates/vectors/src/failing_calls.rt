@@ -3,9 +3,8 @@
 //! A run is made with the first call of an object failing, then with the second, and so on, until it makes fewer calls than that. The
 //! calls and what they leave stand in `stands`.
 
-use crate::airs::{ABC, air_of};
 use crate::clients::{HEARD, SEND, TWO};
-use crate::runs::{Left, Object, Objects, files, run_over};
+use crate::runs::{ABC, Left, Object, Objects, air_of, files, run_over};
 use crate::sessions::{HELLO_SESSION, S1, STATION};
 use crate::stands::{Case, PUTS, SEND_CALLS, SHOW_CALLS, STATION_CALLS, TRIAL_CALLS};
 use crate::trials::{TWO_WRONG, noise_of};

@@ -1,7 +1,6 @@
 //! Runs of `one`: docs/profile.md, "one".
 
-use crate::airs::{ABC, air_of};
-use crate::runs::{Left, Object, Objects, run_into, run_over, spelled};
+use crate::runs::{ABC, Left, Object, Objects, air_of, run_into, run_over, spelled};
 use station::Status;
 use std::alloc::{AllocError, Global};
 use std::process::Abort;

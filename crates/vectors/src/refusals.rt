@@ -1,6 +1,7 @@
 //! Runs that are refused: docs/profile.md, "command lines", "settings" and "statuses".
 
-use crate::runs::{Left, Object, Objects, files, run_over};
+use crate::runs::{Left, Object, Objects, files, joined, run_over};
+use crate::sessions::{GROUP, S1, VERSION_2};
 use station::Status;
 use std::alloc::Global;
 use std::test::Fail;
@@ -123,55 +124,115 @@ fn a_file_that_is_not_there_is_a_fault(rt: HostRuntime) -> Result<(), Fail> {
     Ok(())
 }
 
-/// What is wrong with settings files, the files, and what the line about them says.
-const SETTINGS: [(&str, &[u8], &[u8]); 12] = [
-    ("no value", b"cells =", b"pocsag: settings: not toml\n"),
-    ("no key cells", b"cell = 1", b"pocsag: settings: form\n"),
+/// What is wrong with settings files, their pieces, and what the line about them says.
+const SETTINGS: [(&str, &[&[u8]], &[u8]); 19] = [
+    ("no value", &[b"cells ="], b"pocsag: settings: not toml\n"),
+    ("no key cells", &[b"cell = 1"], b"pocsag: settings: form\n"),
     (
         "a password of two characters",
-        b"cells = 1\npassword = \"ab\"",
+        &[b"cells = 1\npassword = \"ab\""],
         b"pocsag: settings: password\n",
     ),
-    ("no cell", b"cells = 0", b"pocsag: settings: cells\n"),
+    ("no cell", &[b"cells = 0"], b"pocsag: settings: cells\n"),
     (
         "70,000 cells",
-        b"cells = 70000",
+        &[b"cells = 70000"],
         b"pocsag: settings: cells\n",
     ),
     (
         "an id that is none",
-        b"cells = 1\nsubscriber = [{id = \"x\", capcode = 8, class = \"alpha\"}]",
+        &[b"cells = 1\nsubscriber = [{id = \"x\", capcode = 8, class = \"alpha\"}]"],
         b"pocsag: settings: id at entry 1\n",
     ),
     (
         "an id twice",
-        b"cells = 1\nsubscriber = [{id = \"1\", capcode = 8, class = \"alpha\"}, {id = \"1\", capcode = 9, class = \"alpha\"}]",
+        &[
+            b"cells = 1\nsubscriber = [{id = \"1\", capcode = 8, class = \"alpha\"}, {id = \"1\", capcode = 9, class = \"alpha\"}]",
+        ],
         b"pocsag: settings: id twice at entry 2\n",
     ),
     (
         "a capcode that is not usable",
-        b"cells = 1\nsubscriber = [{id = \"1\", capcode = 8, class = \"alpha\"}, {id = \"2\", capcode = 2007664, class = \"alpha\"}]",
+        &[
+            b"cells = 1\nsubscriber = [{id = \"1\", capcode = 8, class = \"alpha\"}, {id = \"2\", capcode = 2007664, class = \"alpha\"}]",
+        ],
         b"pocsag: settings: capcode at entry 2\n",
     ),
     (
         "a negative capcode",
-        b"cells = 1\nsubscriber = [{id = \"1\", capcode = -1, class = \"alpha\"}]",
+        &[b"cells = 1\nsubscriber = [{id = \"1\", capcode = -1, class = \"alpha\"}]"],
         b"pocsag: settings: capcode at entry 1\n",
     ),
     (
         "a class that is none",
-        b"cells = 1\nsubscriber = [{id = \"1\", capcode = 8, class = \"beta\"}]",
+        &[b"cells = 1\nsubscriber = [{id = \"1\", capcode = 8, class = \"beta\"}]"],
         b"pocsag: settings: class at entry 1\n",
     ),
     (
         "a password alone",
-        b"password = \"SECRET\"",
+        &[b"password = \"SECRET\""],
         b"pocsag: settings: form\n",
     ),
     (
         "a further key",
-        b"cells = 1\nextra = 1",
+        &[b"cells = 1\nextra = 1"],
         b"pocsag: settings: form\n",
+    ),
+    (
+        "a version that is none",
+        &[b"version = 3\n", S1, GROUP],
+        b"pocsag: settings: version\n",
+    ),
+    (
+        "a group in a file of version 1",
+        &[S1, GROUP],
+        b"pocsag: settings: form\n",
+    ),
+    (
+        "a group whose id is none",
+        &[
+            VERSION_2,
+            S1,
+            b"[[group]]\nid = \"x\"\ncapcodes = [8]\nclass = \"alpha\"\n",
+        ],
+        b"pocsag: settings: id at group 1\n",
+    ),
+    (
+        "a group with the id of a subscriber",
+        &[
+            VERSION_2,
+            S1,
+            b"[[group]]\nid = \"8\"\ncapcodes = [8, 15, 2000]\nclass = \"alpha\"\n",
+        ],
+        b"pocsag: settings: id twice at group 1\n",
+    ),
+    (
+        "a group of no capcode",
+        &[
+            VERSION_2,
+            S1,
+            b"[[group]]\nid = \"900\"\ncapcodes = []\nclass = \"alpha\"\n",
+        ],
+        b"pocsag: settings: members at group 1\n",
+    ),
+    (
+        "a group with a capcode twice",
+        &[
+            VERSION_2,
+            S1,
+            b"[[group]]\nid = \"900\"\ncapcodes = [8, 8]\nclass = \"alpha\"\n",
+        ],
+        b"pocsag: settings: members at group 1\n",
+    ),
+    (
+        "a second group whose class is none",
+        &[
+            VERSION_2,
+            S1,
+            GROUP,
+            b"[[group]]\nid = \"901\"\ncapcodes = [8]\nclass = \"beta\"\n",
+        ],
+        b"pocsag: settings: class at group 2\n",
     ),
 ];
 
@@ -185,7 +246,8 @@ const READING: [&[&str]; 2] = [
 fn a_settings_file_that_is_refused_is_named(rt: HostRuntime) -> Result<(), Fail> {
     for words in READING {
         for (name, settings, line) in SETTINGS {
-            let left = ran_with(rt.alloc(), words, "s1.toml", settings)?;
+            let settings = joined(rt.alloc(), settings)?;
+            let left = ran_with(rt.alloc(), words, "s1.toml", &settings)?;
             assert_eq!(rt; left.status, Status::Settings, "{name}, {words:?}");
             assert_eq!(rt; left.status.code(), 3, "{name}, {words:?}");
             assert!(rt;

@@ -1,4 +1,4 @@
-//! A run of the program over objects in memory, and what it left.
+//! A run of the program over objects in memory, and what it left; and the bytes of transmissions: docs/profile.md, "preamble" and "batch".
 
 ghost use Rattle.std.specs.Prelude.{◌≡◌, ◌<◌, IfOk};
 ghost use Rattle.wires.specs.FakeWire.{wire_tells};
@@ -92,6 +92,15 @@ pub(crate) fn spelled(alloc: Global, pieces: &[(&[u8], usize)]) -> Result<Vec<u8
     for (piece, letters) in pieces {
         bytes.extend_from_slice(*piece)?;
         push_letters(*letters, &mut bytes)?;
+    }
+    Ok(bytes)
+}
+
+/// The pieces, one behind the other.
+pub(crate) fn joined(alloc: Global, pieces: &[&[u8]]) -> Result<Vec<u8>, AllocError> {
+    let mut bytes = Vec::new(alloc);
+    for piece in pieces {
+        bytes.extend_from_slice(*piece)?;
     }
     Ok(bytes)
 }
@@ -299,4 +308,89 @@ pub(crate) fn run_into(
         && was_sink_called(&mut out, last_call(Object::Output, objects.faults))
         && was_sink_called(&mut err, last_call(Object::Errors, objects.faults));
     Ok(left)
+}
+
+/// The sync word.
+const SYNC: u32 = 0x7CD2_15D8;
+
+/// The idle word.
+pub(crate) const IDLE: u32 = 0x7A89_C197;
+
+/// The words of a page with the text `ABC` to capcode 8, each by its slot.
+pub(crate) const ABC: &[(usize, u32)] = &[(0, 0x0000_3B49), (1, 0xC143_87B8), (2, 0xC000_04DC)];
+
+/// Those of the text `HELLO`.
+pub(crate) const HELLO: &[(usize, u32)] = &[(0, 0x0000_3B49), (1, 0x89A2_634D), (2, 0xCCF9_05DE)];
+
+/// Those of the text `A` to capcodes 8, 15 and 2000: two runs in frame 0, the second one in the second batch, and one in frame 7.
+pub(crate) const TO_GROUP: &[(usize, u32)] = &[
+    (0, 0x0000_3B49),
+    (1, 0xC100_057F),
+    (14, 0x0000_3B49),
+    (15, 0xC100_057F),
+    (16, 0x001F_5FA2),
+    (17, 0xC100_057F),
+];
+
+/// Appends a preamble.
+pub(crate) fn push_preamble(air: &mut Vec<u8>) -> Result<(), AllocError> {
+    air.extend_from_slice(&[0xAA; 72])
+}
+
+/// Appends words, each xor a noise.
+pub(crate) fn push_words(air: &mut Vec<u8>, words: &[u32], noise: u32) -> Result<(), AllocError> {
+    for word in words {
+        air.extend_from_slice(&(*word ^ noise).to_be_bytes())?;
+    }
+    Ok(())
+}
+
+/// Appends a batch, by its number, of idle slots but for these words, each xor a noise.
+fn push_batch(
+    air: &mut Vec<u8>,
+    batch: usize,
+    words: &[(usize, u32)],
+    noise: u32,
+) -> Result<(), AllocError> {
+    push_words(air, &[SYNC], noise)?;
+    for place in 0..16 {
+        let word = word_at(batch.wrapping_mul(16).wrapping_add(place), words);
+        push_words(air, &[word], noise)?;
+    }
+    Ok(())
+}
+
+/// The word of this slot, which is idle where none is given.
+fn word_at(slot: usize, words: &[(usize, u32)]) -> u32 {
+    for (place, word) in words {
+        if *place == slot {
+            return *word;
+        }
+    }
+    IDLE
+}
+
+/// Appends a preamble, and so many batches of idle slots but for these words. Each word behind the preamble is xor a noise.
+pub(crate) fn push_air(
+    air: &mut Vec<u8>,
+    batches: usize,
+    words: &[(usize, u32)],
+    noise: u32,
+) -> Result<(), AllocError> {
+    push_preamble(air)?;
+    for batch in 0..batches {
+        push_batch(air, batch, words, noise)?;
+    }
+    Ok(())
+}
+
+/// A preamble, and so many batches of idle slots but for these words.
+pub(crate) fn air_of(
+    alloc: Global,
+    batches: usize,
+    words: &[(usize, u32)],
+) -> Result<Vec<u8>, AllocError> {
+    let mut air = Vec::new(alloc);
+    push_air(&mut air, batches, words, 0)?;
+    Ok(air)
 }

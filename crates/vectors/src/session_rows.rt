@@ -1,19 +1,20 @@
-//! Sessions whose pages are accepted: docs/profile.md, "session", "judgement" and "batch".
+//! Sessions whose pages are accepted, and sessions in which blocks and lines are refused: docs/profile.md, "session", "judgement", "batch" and
+//! "length of a session".
 
-use crate::airs::HELLO;
-use crate::sessions::{Air, HELLO_LINE, HELLO_SESSION, Row, S1};
+use crate::runs::{HELLO, TO_GROUP};
+use crate::sessions::{Air, GROUP, HELLO_LINE, HELLO_SESSION, Row, S1, S2, VERSION_2};
 
 /// One subscriber, and room for 64 letters.
-const SMALL: &[u8] = b"cells = 2
+pub(crate) const SMALL: &[u8] = b"cells = 2
 subscriber = [
   {id = \"5551234\", capcode = 8, class = \"alpha\"},
 ]
 ";
 
-pub(crate) const ACCEPTED: [Row; 15] = [
+pub(crate) const ACCEPTED: [Row; 17] = [
     Row {
         name: "a page",
-        settings: S1,
+        settings: &[S1],
         heard: &[(HELLO_SESSION, 0)],
         said: b"ID=\x06\r\x1B[p\r\x06\r\x1B\x04\r",
         line: HELLO_LINE,
@@ -23,7 +24,7 @@ pub(crate) const ACCEPTED: [Row; 15] = [
     },
     Row {
         name: "a page to another receiver",
-        settings: S1,
+        settings: &[S1],
         heard: &[(HELLO_SESSION, 0)],
         said: b"ID=\x06\r\x1B[p\r\x06\r\x1B\x04\r",
         line: HELLO_LINE,
@@ -33,7 +34,7 @@ pub(crate) const ACCEPTED: [Row; 15] = [
     },
     Row {
         name: "a wrong sum, and the block again",
-        settings: S1,
+        settings: &[S1],
         heard: &[(
             b"\r\x1BPG1\r\x025551234\rHELLO\r\x032?=\r\x025551234\rHELLO\r\x032?<\r\x04\r",
             0,
@@ -46,7 +47,7 @@ pub(crate) const ACCEPTED: [Row; 15] = [
     },
     Row {
         name: "junk between blocks",
-        settings: S1,
+        settings: &[S1],
         heard: &[(
             b"\r\x1BPG1\rx\x02junk\x025551234\rHELLO\r\x032?<\r\x04y\x04\r",
             0,
@@ -59,7 +60,7 @@ pub(crate) const ACCEPTED: [Row; 15] = [
     },
     Row {
         name: "a last space, and the text without it",
-        settings: S1,
+        settings: &[S1],
         heard: &[(
             b"\r\x1BPG1\r\x025550002\r12 \r\x03203\r\x025550002\r12\r\x031>3\r\x04\r",
             0,
@@ -72,7 +73,7 @@ pub(crate) const ACCEPTED: [Row; 15] = [
     },
     Row {
         name: "no digit",
-        settings: S1,
+        settings: &[S1],
         heard: &[(b"\r\x1BPG1\r\x025550002\r\r\x03180\r\x04\r", 0)],
         said: b"ID=\x06\r\x1B[p\r\x06\r\x1B\x04\r",
         line: HELLO_LINE,
@@ -82,7 +83,7 @@ pub(crate) const ACCEPTED: [Row; 15] = [
     },
     Row {
         name: "a text in two blocks, with SUB across",
-        settings: S1,
+        settings: &[S1],
         heard: &[(
             b"\r\x1BPG1\r\x025551234\rA\x1A\x1F1?2\r\x02MB\r\x030:1\r\x04\r",
             0,
@@ -95,7 +96,7 @@ pub(crate) const ACCEPTED: [Row; 15] = [
     },
     Row {
         name: "no room for the second page",
-        settings: SMALL,
+        settings: &[SMALL],
         heard: &[
             (b"\r\x1BPG1\r\x025551234\r", 64),
             (b"\r\x031<8\r\x025551234\rA\r\x031<9\r\x04\r", 0),
@@ -108,7 +109,7 @@ pub(crate) const ACCEPTED: [Row; 15] = [
     },
     Row {
         name: "three tones",
-        settings: S1,
+        settings: &[S1],
         heard: &[(
             b"\r\x1BPG1\r\x0215\r\r\x03085\r\x028\r\r\x03057\r\x0216\r\r\x03086\r\x04\r",
             0,
@@ -121,7 +122,7 @@ pub(crate) const ACCEPTED: [Row; 15] = [
     },
     Row {
         name: "three tones, two of one frame",
-        settings: S1,
+        settings: &[S1],
         heard: &[(
             b"\r\x1BPG1\r\x028\r\r\x03057\r\x028\r\r\x03057\r\x0216\r\r\x03086\r\x04\r",
             0,
@@ -134,7 +135,7 @@ pub(crate) const ACCEPTED: [Row; 15] = [
     },
     Row {
         name: "a page in the last frame",
-        settings: S1,
+        settings: &[S1],
         heard: &[(b"\r\x1BPG1\r\x027\rA\r\x03097\r\x04\r", 0)],
         said: b"ID=\x06\r\x1B[p\r\x06\r\x1B\x04\r",
         line: HELLO_LINE,
@@ -144,7 +145,7 @@ pub(crate) const ACCEPTED: [Row; 15] = [
     },
     Row {
         name: "two tones in the last frame",
-        settings: S1,
+        settings: &[S1],
         heard: &[(
             b"\r\x1BPG1\r\x0215\r\r\x03085\r\x0215\r\r\x03085\r\x04\r",
             0,
@@ -157,7 +158,7 @@ pub(crate) const ACCEPTED: [Row; 15] = [
     },
     Row {
         name: "400 characters",
-        settings: S1,
+        settings: &[S1],
         heard: &[
             (b"\r\x1BPG1\r\x025551234\r", 242),
             (b"\x1F?09\r\x02", 158),
@@ -171,7 +172,7 @@ pub(crate) const ACCEPTED: [Row; 15] = [
     },
     Row {
         name: "401 characters",
-        settings: S1,
+        settings: &[S1],
         heard: &[
             (b"\r\x1BPG1\r\x025551234\r", 242),
             (b"\x1F?09\r\x02", 159),
@@ -185,7 +186,7 @@ pub(crate) const ACCEPTED: [Row; 15] = [
     },
     Row {
         name: "1,000 characters, and 1,001",
-        settings: S1,
+        settings: &[S1],
         heard: &[
             (b"\r\x1BPG1\r\x025551234\r", 242),
             (b"\x1F?09\r\x02", 250),
@@ -204,5 +205,152 @@ pub(crate) const ACCEPTED: [Row; 15] = [
         air: Air::Ends(22, 1),
         capcodes: &["9"],
         pages: b"",
+    },
+    Row {
+        name: "a page to a group",
+        settings: S2,
+        heard: &[(b"\r\x1BPG1\r\x02900\rA\r\x030?9\r\x04\r", 0)],
+        said: b"ID=\x06\r\x1B[p\r\x06\r\x1B\x04\r",
+        line: b"session 1 ended pages 3 continued 0 nak 0 body 0 content 0 form 0 unknown 0 text 0 room 0 wrong 0\n",
+        air: Air::Words(2, TO_GROUP),
+        capcodes: &["8+15+2000", "15"],
+        pages: b"01 0000008 A A\n01 0000015 A A\n02 0000015 A A\n01 0002000 A A\n",
+    },
+    Row {
+        name: "a page to a group of 16 capcodes, in all that is spare",
+        settings: &[VERSION_2, b"cells = 16\n", SIXTEEN],
+        heard: &[(b"\r\x1BPG1\r\x02900\rA\r\x030?9\r\x04\r", 0)],
+        said: b"ID=\x06\r\x1B[p\r\x06\r\x1B\x04\r",
+        line: b"session 1 ended pages 16 continued 0 nak 0 body 0 content 0 form 0 unknown 0 text 0 room 0 wrong 0\n",
+        air: Air::Ends(16, 14),
+        capcodes: &[
+            "8+16+24+32",
+            "40+48+56+64",
+            "72+80+88+96",
+            "104+112+120+128",
+        ],
+        pages: b"01 0000008 A A\n01 0000016 A A\n01 0000024 A A\n01 0000032 A A\n02 0000040 A A\n02 0000048 A A\n02 0000056 A A\n02 0000064 A A\n03 0000072 A A\n03 0000080 A A\n03 0000088 A A\n03 0000096 A A\n04 0000104 A A\n04 0000112 A A\n04 0000120 A A\n04 0000128 A A\n",
+    },
+];
+
+/// A group of 16 capcodes of frame 0.
+const SIXTEEN: &[u8] = b"[[group]]
+id = \"900\"
+capcodes = [8, 16, 24, 32, 40, 48, 56, 64, 72, 80, 88, 96, 104, 112, 120, 128]
+class = \"alpha\"
+";
+
+/// No subscriber, and a password.
+const LOCKED: &[u8] = b"cells = 1\npassword = \"SECRET\"\n";
+
+pub(crate) const REFUSED: [Row; 9] = [
+    Row {
+        name: "an id that is not there",
+        settings: &[S1],
+        heard: &[(b"\r\x1BPG1\r\x02999\rX\r\x03122\r\x04\r", 0)],
+        said: b"ID=\x06\r\x1B[p\r\x1E\r\x1B\x04\r",
+        line: b"session 1 ended pages 0 continued 0 nak 0 body 0 content 0 form 0 unknown 1 text 0 room 0 wrong 0\n",
+        air: Air::Empty,
+        capcodes: &["8"],
+        pages: b"",
+    },
+    Row {
+        name: "one field",
+        settings: &[S1],
+        heard: &[(b"\r\x1BPG1\r\x02HELLO\r\x03186\r\x04\r", 0)],
+        said: b"ID=\x06\r\x1B[p\r\x1E\r\x1B\x04\r",
+        line: b"session 1 ended pages 0 continued 0 nak 0 body 0 content 0 form 1 unknown 0 text 0 room 0 wrong 0\n",
+        air: Air::Empty,
+        capcodes: &["8"],
+        pages: b"",
+    },
+    Row {
+        name: "both",
+        settings: &[S1],
+        heard: &[(
+            b"\r\x1BPG1\r\x02999\rX\r\x03122\r\x02HELLO\r\x03186\r\x04\r",
+            0,
+        )],
+        said: b"ID=\x06\r\x1B[p\r\x1E\r\x1E\r\x1B\x04\r",
+        line: b"session 1 ended pages 0 continued 0 nak 0 body 0 content 0 form 1 unknown 1 text 0 room 0 wrong 0\n",
+        air: Air::Empty,
+        capcodes: &["8"],
+        pages: b"",
+    },
+    Row {
+        name: "bodies and contents that are too long",
+        settings: &[S1],
+        heard: &[
+            (b"\r\x1BPG1\r\x025551234\r", 241),
+            (b"\r\x03>;9\r\x025551234\r", 242),
+            (b"\r\x03>?:\r\x02", 250),
+            (b"\x1F?9;\r\x02", 250),
+            (b"\x1F?9;\r\x02", 250),
+            (b"\x1F?9;\r\x02", 250),
+            (b"\x1F?9;\r\x02", 250),
+            (b"\x1F?9;\r\x02", 250),
+            (b"\x1F?9;\r\x02", 250),
+            (b"\x1F?9;\r\x02", 250),
+            (b"\x1F?9;\r\x02", 250),
+            (b"\x1F?9;\r\x02999\rX\r\x03122\r\x04\r", 0),
+        ],
+        said: b"ID=\x06\r\x1B[p\r\x06\r\x1E\r\x06\r\x06\r\x06\r\x06\r\x06\r\x06\r\x06\r\x06\r\x1E\r\x1E\r\x1B\x04\r",
+        line: b"session 1 ended pages 1 continued 8 nak 0 body 1 content 1 form 0 unknown 1 text 0 room 0 wrong 0\n",
+        air: Air::Ends(6, 10),
+        capcodes: &["9"],
+        pages: b"",
+    },
+    Row {
+        name: "a logon without the password",
+        settings: &[LOCKED],
+        heard: &[(b"\x1BPG1\r\x1BPG1SECRET\r\x04\r", 0)],
+        said: b"\x15\r\x06\r\x1B[p\r\x1B\x04\r",
+        line: b"session 1 ended pages 0 continued 0 nak 0 body 0 content 0 form 0 unknown 0 text 0 room 0 wrong 1\n",
+        air: Air::Empty,
+        capcodes: &["8"],
+        pages: b"",
+    },
+    Row {
+        name: "three wrong lines",
+        settings: &[S1],
+        heard: &[(b"a\rb\rc\rd\r", 0)],
+        said: b"\x15\r\x15\r\x1B\x04\r",
+        line: b"session 1 forced pages 0 continued 0 nak 0 body 0 content 0 form 0 unknown 0 text 0 room 0 wrong 3\n",
+        air: Air::Empty,
+        capcodes: &["8"],
+        pages: b"",
+    },
+    Row {
+        name: "a line that ends",
+        settings: &[S1],
+        heard: &[(b"\r\x1BPG1\r", 0)],
+        said: b"ID=\x06\r\x1B[p\r",
+        line: b"session 1 hung-up pages 0 continued 0 nak 0 body 0 content 0 form 0 unknown 0 text 0 room 0 wrong 0\n",
+        air: Air::Empty,
+        capcodes: &["8"],
+        pages: b"",
+    },
+    Row {
+        name: "room for 15 pages, and a group of 16 capcodes",
+        settings: &[VERSION_2, b"cells = 15\n", SIXTEEN],
+        heard: &[(b"\r\x1BPG1\r\x02900\rA\r\x030?9\r\x04\r", 0)],
+        said: b"ID=\x06\r\x1B[p\r\x1E\r\x1B\x04\r",
+        line: b"session 1 ended pages 0 continued 0 nak 0 body 0 content 0 form 0 unknown 0 text 0 room 1 wrong 0\n",
+        air: Air::Empty,
+        capcodes: &["8+16+24+32"],
+        pages: b"",
+    },
+    Row {
+        name: "no room for all pages to a group, and a page in all that is spare",
+        settings: &[VERSION_2, SMALL, GROUP],
+        heard: &[
+            (b"\r\x1BPG1\r\x02900\rA\r\x030?9\r\x025551234\r", 64),
+            (b"\r\x031<8\r\x04\r", 0),
+        ],
+        said: b"ID=\x06\r\x1B[p\r\x1E\r\x06\r\x1B\x04\r",
+        line: b"session 1 ended pages 1 continued 0 nak 0 body 0 content 0 form 0 unknown 0 text 0 room 1 wrong 0\n",
+        air: Air::Ends(2, 8),
+        capcodes: &["8+15+2000"],
+        pages: b"01 0000008 A AAAAAAAAAAAAAAAAAAAAAAAAAAAAAAAAAAAAAAAAAAAAAAAAAAAAAAAAAAAAAAAA\n",
     },
 ];
