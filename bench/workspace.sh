@@ -11,7 +11,10 @@ workspace() {
         # the libraries of the kit have no folder here
         [ -d "$top/crates/$name" ] && [ ! -d "$work/crates/$name" ] || continue
         mkdir -p "$work/crates/$name"
-        cp -r "$top/crates/$name/src" "$top/crates/$name/specs" "$top/crates/$name/proofs" "$work/crates/$name/"
+        # with what was proved and built of it, if it was
+        for part in src specs proofs out; do
+            [ ! -d "$top/crates/$name/$part" ] || cp -r "$top/crates/$name/$part" "$work/crates/$name/"
+        done
         grep "^$name:" "$top/crates.txt" >>"$work/crates.txt"
         workspace $(sed -n "s/^$name://p" "$top/crates.txt")
     done

@@ -57,7 +57,7 @@ def prepare(work):
     edit(
         f"{work}/crates/page_tool/src/main.rt",
         [
-            ("mod file_shelf;\n", "mod file_shelf;\nmod refusals;\n"),
+            ("mod connection_tests;\n", "mod connection_tests;\nmod refusals;\n"),
             ("    let mut err = OutSink", "    let before = refusals::before(&rt, rt.stdin());\n    let mut err = OutSink"),
             (
                 "    ExitCode::from(status.code())",

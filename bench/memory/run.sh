@@ -18,10 +18,10 @@ cp "$top/HANDLES" "$work/"
 cat >"$work/crates/page_tool/src/refusals.rt" <<'REFUSALS'
 //! Requests for memory before and after a run of the program. A script adds this module to a copy of `page_tool`.
 
-use crate::streams::InSource;
 use std::fs::File;
 use std::io::Read;
 use std::rt::Files;
+use system_io::streams::InSource;
 use wires::source::Source;
 
 /// So many are made after a run, or fewer if one is refused.

@@ -7,7 +7,7 @@ set -eu
 
 workspace air
 mkdir -p "$work/crates/measure/src"
-cp "$top/crates/page_tool/src/streams.rt" "$work/crates/measure/src/"
+cp "$top/crates/system_io/src/streams.rt" "$work/crates/measure/src/"
 echo 'measure: air scheduler page_pool page_text codeword bch31 bits wires arrayvec anyhow' >>"$work/crates.txt"
 cat >"$work/crates/measure/src/main.rt" <<'RT'
 //! Writes the transmission of 10,000 pages to the output, and its number of batches and its time in nanoseconds to the error stream.
