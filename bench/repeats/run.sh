@@ -54,9 +54,7 @@ fn bytes(alloc: Global, is_idle: bool) -> Result<Vec<u8>, AllocError> {
     for k in 0..WORDS {
         state = drawn(state);
         let word = if is_idle { idle_at(k) } else { (state >> 32) as u32 };
-        for shift in [24u32, 16, 8, 0] {
-            bytes.push((word >> shift) as u8)?;
-        }
+        bytes.extend_from_slice(&word.to_be_bytes())?;
     }
     Ok(bytes)
 }
