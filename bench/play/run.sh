@@ -1,6 +1,7 @@
 #!/bin/sh
 # Times `play` of the built program over the longest files that it hears, beside the same receiver in plain Rust, which takes 32 bits at a
-# time too and prints the same lines. The two take turns. It wants rt, rustc, Python 3, and 134 MB of room for the files.
+# time too and prints the same lines, and with 64 receivers of four capcodes each beside one receiver. The two take turns. It wants rt, rustc,
+# Python 3, and 134 MB of room for the files.
 set -eu
 . "$(dirname -- "$0")/../workspace.sh"
 
@@ -44,20 +45,36 @@ def air(batches):
     return (72 * b"\xaa" + (SIZE // len(batches) + 1) * batches)[:SIZE]
 
 
+def taking_turns(*runs):
+    """The least times of these runs over the file, which take turns."""
+    return map(min, zip(*[[seconds(words) for words in runs] for _ in range(TIMES)]))
+
+
+def by_bit(time):
+    """A time over the file, and that of a bit in nanoseconds."""
+    return f"{time:.2f} | {time / SIZE / 8 * 1e9:.2f}"
+
+
+AIR = f"{work}/air"
+PLAY = [program, "play", AIR]
+# none of them has a page in these files
+MANY = ["+".join(str(1000 + 37 * (4 * k + j)) for j in range(4)) for k in range(64)]
+# what is in a file, and whether it is played with 64 receivers too
 rows = [
-    ("zeros", bytes(SIZE)),
-    ("random", random.Random(5).randbytes(SIZE)),
-    ("preamble and idle batches", air(BATCH)),
-    ("pages to other capcodes", air(pages(40_000))),
-    ("pages, a fourth of them to its capcode", air(pages(8))),
+    ("zeros", bytes(SIZE), False),
+    ("random", random.Random(5).randbytes(SIZE), False),
+    ("preamble and idle batches", air(BATCH), True),
+    ("pages to other capcodes", air(pages(40_000)), True),
+    ("pages, a fourth of them to its capcode", air(pages(8)), False),
 ]
-print("| bytes | `play`, s | ns a bit | plain Rust, s | ns a bit | ratio |")
-print("|---|---|---|---|---|---|")
-for name, content in rows:
-    name_of_air = f"{work}/air"
-    with open(name_of_air, "wb") as file:
+print("| bytes | receivers | `play`, s | ns a bit | plain Rust, s | ns a bit | ratio |")
+print("|---|---|---|---|---|---|---|")
+for name, content, is_for_many in rows:
+    with open(AIR, "wb") as file:
         file.write(content)
-    times = [(seconds([program, "play", name_of_air, "8"]), seconds([f"{work}/plain", name_of_air])) for _ in range(TIMES)]
-    proved, plain = map(min, zip(*times))
-    print(f"| {name} | {proved:.2f} | {proved / SIZE / 8 * 1e9:.2f} | {plain:.2f} | {plain / SIZE / 8 * 1e9:.2f} | {proved / plain:.2f} |")
+    proved, plain = taking_turns([*PLAY, "8"], [f"{work}/plain", AIR])
+    print(f"| {name} | one of one capcode | {by_bit(proved)} | {by_bit(plain)} | {proved / plain:.2f} |", flush=True)
+    if is_for_many:
+        many, one = taking_turns([*PLAY, *MANY], [*PLAY, "8"])
+        print(f"| {name} | 64 of four capcodes | {by_bit(many)} | | | {many / one:.2f} times one |", flush=True)
 PY
