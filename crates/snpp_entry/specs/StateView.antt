@@ -6,7 +6,7 @@ use Rattle.snpp_entry.specs.State.{SnppState}
 
 -- the fields of an Snpp
 abbrev pub snpp_state_of : Inside → SnppState
-snpp_state_of t = record { pending = pending_of t.pending; kept = t.kept.items; count = t.count; heard = t.heard; report = t.report; over = t.over }
+snpp_state_of t = record { pending = pending_of t.pending; kept = t.kept; count = t.count; heard = t.heard; report = t.report; over = t.over }
 
 -- each line has at least one character, and queues at most 16 pages
 pub record SnppIsInRange (t : Inside) : Type 0 where

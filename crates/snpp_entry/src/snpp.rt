@@ -15,19 +15,16 @@ ghost use Rattle.snpp_entry.specs.Session.{is_bye, session};
 ghost use Rattle.snpp_entry.specs.State.{SnppStands, SnppHearsOn};
 
 use crate::answers::SnppAnswer;
+use crate::front::LineFront;
 use crate::pending::{Held, answer_piece};
 use crate::report::{EMPTY, SnppReport};
-use arrayvec::ArrayVec;
 use entry_line::characters::{LAST_CHARACTER, LF};
-use entry_line::kept::{count_within, push_within};
+use entry_line::kept::count_within;
 use page_pool::Pool;
 use std::marker::Model;
 use subscribers::Settings;
 
-/// How many characters after the last LF are kept: one more than the longest line has.
-const KEPT: usize = 1101;
-
-/// The count that stands for all greater numbers of these characters.
+/// The count that stands for all greater numbers of the characters after the last LF.
 const MORE: u32 = 1102;
 
 /// One session of the SNPP entry line. A contract sees it as what it holds (`SnppState`).
@@ -35,7 +32,7 @@ const MORE: u32 = 1102;
 pub struct Snpp {
     pending: Held,
     /// The first characters after the last LF.
-    kept: ArrayVec<u8, KEPT>,
+    kept: LineFront,
     /// How many there are.
     count: u32,
     /// How many characters came.
@@ -63,7 +60,7 @@ impl Snpp {
     {
         Snpp {
             pending: Held::nothing(),
-            kept: ArrayVec::new(),
+            kept: LineFront::new(),
             count: 0,
             heard: 0,
             report: EMPTY,
@@ -97,7 +94,7 @@ impl Snpp {
         self.heard += 1;
         let c = byte % 128;
         if c != LF {
-            push_within(&mut self.kept, c);
+            self.kept.push(c);
             self.count = count_within(self.count, MORE);
             return SnppAnswer::Nothing;
         }

@@ -23,7 +23,7 @@ returns-then-c-ne-LF c spare x k =
     let few : c.self.inside.heard < 999999 = (let h = c.if-self-eq-LAST_CHARACTER.false in let b = c.self.invariant.heard_bound in omega arith) in
     let other : (char_of c.args.byte == 10) ≡ false = (let h = c.if-c-ne-LF.true in grind (arith, nat_tests)) in
     quiet_on (directory_of c.args.settings.now) spare (snpp_state_of c.self.inside) _ x (char_of c.args.byte) c.args.pool.now
-    c.if-self.false few other refl refl refl c.if-self.false c.push_within.ensures c.count_within-self-inside.ensures
+    c.if-self.false few other refl refl refl c.if-self.false c.push.ensures c.count_within-self-inside.ensures
     (subst (λ (d : SnppState). SnppStands (directory_of c.args.settings.now) spare d x c.args.pool.now.spare) (sym c.self.view_is) k)
 
 pub returns : goal.returns
@@ -33,5 +33,5 @@ returns c spare x k =
     let d = snpp_state_of c.self.inside in
     line_on (directory_of c.args.settings.now) spare d _ x (char_of c.args.byte) c.answer_piece-answer.result.0 c.answer_piece-answer.result.1 c.args.pool.now c.answer_piece-answer.new.pool
     c.if-self.false few lf refl c.clear.ensures refl c.is_bye-self-inside.ensures c.count.ensures
-    (λ piece h. c.answer_piece-answer.ensures.done piece (subst (λ (kept : List ℕ). AreKept piece kept c.self.inside.count) (sym c.as_slice.ensures.value) h))
+    (λ piece h. c.answer_piece-answer.ensures.done piece (subst (λ (kept : List ℕ). AreKept piece kept c.self.inside.count) (sym c.as_slice.ensures) h))
     (subst (λ (d : SnppState). SnppStands (directory_of c.args.settings.now) spare d x c.args.pool.now.spare) (sym c.self.view_is) k)
